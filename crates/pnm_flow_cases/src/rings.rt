@@ -295,7 +295,7 @@ pub fn write_gathered<R: Wait>(
     if inputs.is_empty() || inputs.len() > MAX_LANES {
         return Err(Unmade);
     }
-    let mut done = gather(rt, inputs, output);
+    let mut done = gather(rt, alloc, inputs, output);
     write_end(done.end, out)?;
     write_rings(alloc, ("", " left"), done.inputs.as_mut_slice(), out)?;
     write_sent(alloc, receiver, out)

@@ -1,16 +1,18 @@
 -- How a gatherer ends.
 use Rattle.pnm_lanes.proofs.Words.{◌≡◌, ◌⊎◌, inl, inr, ℕ, ◌<◌, Bool, true, false, List, [], ◌∷◌, ◌++◌, length, drop, refl, sym, ap, subst, ◌∙◌, append_assoc}
 use Rattle.pnm_lanes.proofs.Words.{append-nil, AllByRecursion, false≢true, drop_at, Message, Stop, Place, Between, IsPrefixOf, Image, messages_of_stream}
-use Rattle.pnm_lanes.proofs.Words.{IsMessage, without_stop, ending_of, EndsBy, IsLawful, IsLawfulFrom, place_of, each-push, stream_is_lawful, More, Whole}
+use Rattle.pnm_lanes.proofs.Words.{IsMessage, without_stop, EndsBy, IsLawful, IsLawfulFrom, place_of, each-push, stream_is_lawful, More, Whole}
 use Rattle.pnm_lanes.proofs.Words.{BrokenOff, dealt, dealt_message, dealt_from, prefix_of_prefix, StageEnd, Well, Broken, Fault, PeerGone, Extends, IsEnded}
 use Rattle.pnm_lanes.proofs.Words.{EndsAtMostOnce, one_ending, nothing_follows, stream_ends_whole, stop_is_cut, prefix_without_stop, ends_as, LaneState, Open}
-use Rattle.pnm_lanes.proofs.Words.{Ended, Gone, Receiver, OutOfOrder, AreDealt, BeginsOrEnds, HasSentAll, HasPassedSo, HasGatheredSo, HasGathered}
-use Rattle.pnm_lanes.proofs.Words.{have_received_rows, HasGatheredOrRefused, IsOfStream, state_at, HasTakenWhole, HasTakenNone, BeginsNone, IsCause, IsLane}
-use Rattle.pnm_lanes.proofs.Words.{AreLanes, CarriesOn, IsDone, HasStopped, HasBrokenOffAll, HasDrainedAll, HasGatheredBy}
-use Rattle.pnm_lanes.proofs.PartLaws.{dealt_from-append, prefix_cancel, parts_tell_the_whole}
+use Rattle.pnm_lanes.proofs.Words.{Ended, Gone, OutOfOrder, Memory, CutOutside, ChannelOutside, TooLarge, AreDealt, BeginsOrEnds, HasSentAll, HasPassedSo}
+use Rattle.pnm_lanes.proofs.Words.{HasGatheredSo, HasGathered, IsOfStream, state_at, HasTakenWhole, HasTakenNone, BeginsNone, IsCause, IsLane, IsLeftBy}
+use Rattle.pnm_lanes.proofs.Words.{AreLanes, CarriesOn, IsDone, HasStopped, HasBrokenOffAll, HasDrainedAll, Packet, messages_in, ending_of_packet, StreamEnd}
+use Rattle.pnm_lanes.proofs.Words.{Held, in_held, at_lane}
+use Rattle.pnm_image.specs.declared.packet.Packet.TheVariants.{Part, StreamEnd as EndsStream, Stop as Stops}
+use Rattle.pnm_lanes.proofs.PartLaws.{dealt_from-append, prefix_cancel, parts_tell_the_whole, lawful_fits}
 use Rattle.pnm_lanes.proofs.DealtParts.{all_of_both, all_of_rest, all_messages, stream_keeps_all, lawful_rest, dealt_of_stream, dealt_goes_on, dealt_end}
 use Rattle.pnm_lanes.proofs.DealtParts.{images_of_stream, gets_part, prefixes_in_order, last_stays, not_before_stop}
-use Rattle.pnm_lanes.proofs.GatherSteps.{IsGoing, with_one_more, lanes_with_one, lawful_with_one, sent_with_one, lanes_after}
+use Rattle.pnm_lanes.proofs.GatherSteps.{IsGoing, dealt_with, lawful_with, sent_with, lanes_after}
 
 -- ---- what was received of a lane in all
 
@@ -101,7 +103,7 @@ with_stop : (lanes : ℕ) (place : Place) (start now : ℕ → List Message) (se
     → (going : IsGoing lanes place start now sent_start sent_now) → IsLastSent going.gave (going.gave ++ Stop ∷ [])
 with_stop lanes place start now sent_start sent_now going = record {
   keeps = stop_is_cut going.gave;
-  lawful = lawful_with_one Stop going going.stoppable;
+  lawful = lawful_with going.gave (Stop ∷ []) going.at_place going.lawful (going.stoppable, tt);
   not_whole = λ whole. let two = one_ending BrokenOff Whole (going.gave ++ Stop ∷ []) (ends_as BrokenOff going.gave Stop going.more refl) whole in absurd cc;
 }
 
@@ -118,7 +120,7 @@ module _ {lanes : ℕ} {gave : List Message} {taken : ℕ → List Message} wher
   pub prefix_of_images : {took : ℕ → List Message} {is : List Image} → 0 < lanes → IsLawful gave → AllByRecursion IsOfStream gave
       → HasLeft lanes gave taken took → AreDealt is lanes took → IsPrefixOf gave (messages_of_stream is)
   prefix_of_images {took} {is} some lawful stream left are =
-      parts_tell_the_whole lanes Between gave (messages_of_stream is) some lawful (stream_is_lawful is are.images) stream (images_of_stream is are.images)
+      parts_tell_the_whole lanes Between gave (messages_of_stream is) some (lawful_fits Between gave lawful stream) (stream_is_lawful is are.images) stream (images_of_stream is are.images)
       (λ lane below. prefix_of_prefix (dealt lane lanes gave) (without_stop (took lane)) (dealt lane lanes (messages_of_stream is))
       (kept_prefix (dealt lane lanes gave) (taken lane ++ left.drained lane) (dealt_of_stream lane lanes Between gave stream)
       (left.parts lane below ∙ append_assoc (dealt lane lanes gave) (taken lane) (left.drained lane))) (are.prefixes lane below))
@@ -207,96 +209,113 @@ module _ {lanes : ℕ} {gave : List Message} {taken : ℕ → List Message} wher
       let broken : EndsBy BrokenOff (took is.0) =
       subst (EndsBy BrokenOff) (sym given) (ends_as BrokenOff (dealt is.0 lanes gave) Stop (dealt_goes_on is.0 lanes Between gave more) refl) in
       ((ended, (is.0, is.1, broken), (gave, refl, more)), λ images are. has_sent_all is.0 some is.1 lawful stream left are given)
-  stopped_so (Fault fault) some lawful stream more at_place left ended is =
-      ((is.0, ended, (gave, refl, more)), λ images are. no_images some lawful stream at_place left is.1 is.2 are)
+  stopped_so (Fault CutOutside) some lawful stream more at_place left ended is = absurd is
+  stopped_so (Fault ChannelOutside) some lawful stream more at_place left ended is = absurd is
+  stopped_so (Fault TooLarge) some lawful stream more at_place left ended is = absurd is
+  stopped_so (Fault OutOfOrder) some lawful stream more at_place left ended is =
+      ((inl refl, ended, (gave, refl, more)), λ images are. absurd (no_images some lawful stream at_place left is.0 is.1 are))
+  stopped_so (Fault Memory) some lawful stream more at_place left ended is = ((inr refl, ended, (gave, refl, more)), λ images are. refl)
   stopped_so PeerGone some lawful stream more at_place left ended is = (tt, λ images are. tt)
 
--- where it isn't stopped
-not_stopped : (end : StageEnd) (stopped : Bool) (lanes : ℕ) (start final left : ℕ → List Message) (sent_start sent_new : List Message) → stopped ≡ false
-    → HasGathered end lanes start final left sent_start sent_new → HasGatheredBy end stopped lanes start final left sent_start sent_new
-not_stopped end stopped lanes start final left sent_start sent_new is gathered = record {
-  gathered = gathered;
-  ended = λ yes. absurd (false≢true (sym is ∙ yes));
-  stop_sent = λ yes. absurd (false≢true (sym is ∙ yes));
-}
+is_stream_end : (packet : Packet) → ending_of_packet packet ≡ Whole → messages_in packet ≡ StreamEnd ∷ []
+is_stream_end (Part part) is = absurd cc
+is_stream_end EndsStream is = refl
+is_stream_end Stops is = absurd cc
+
+-- nothing is held behind the end of the stream
+nothing_behind : (s : LaneState) (rest : List Message) → IsLeftBy s (StreamEnd ∷ rest) → rest ≡ []
+nothing_behind s [] is = refl
+nothing_behind Open (m ∷ rest) is = let not = is.1.0 in absurd cc
+nothing_behind Ended (m ∷ rest) is = elim is.1 [ inl whole ↦ (let not = whole.0 in absurd cc) | inr broken ↦ (let not = broken.0 in absurd cc) ]
+nothing_behind Gone (m ∷ rest) is = absurd is
+
+given_last : (s : LaneState) (start old here held part : List Message) {new : List Message} → old ≡ start ++ here → new ≡ old ++ (part ++ held)
+    → part ≡ StreamEnd ∷ [] → IsLeftBy s (part ++ held) → new ≡ start ++ (here ++ StreamEnd ∷ [])
+given_last s start old here held part before added is left =
+    let none : held ≡ [] = nothing_behind s held (subst (λ (l : List Message). IsLeftBy s (l ++ held)) is left) in
+    added ∙ ap (λ (l : List Message). l ++ (part ++ held)) before ∙ append_assoc start here (part ++ held)
+    ∙ ap (λ (l : List Message). start ++ (here ++ l)) (ap (λ (l : List Message). l ++ held) is ∙ ap (λ (l : List Message). StreamEnd ∷ l) none)
 
 module _ {lanes : ℕ} {place : Place} {states : List LaneState} {start now new : ℕ → List Message} {sent_start sent_now sent_new : List Message} where
   module _ {done : List LaneState} {final left_new left : ℕ → List Message} where
     -- the gatherer was broken off
-    broken_off_so : {cause end : StageEnd} {stopped : Bool} → IsGoing lanes place start now sent_start sent_now → 0 < lanes
+    broken_off_so : {cause end : StageEnd} → IsGoing lanes place start now sent_start sent_now → 0 < lanes
         → HasTakenNone lanes place cause states now new → CarriesOn lanes states done new final left_new left
-        → HasStopped cause end stopped lanes done sent_now sent_new → HasGatheredBy end stopped lanes start final left sent_start sent_new
+        → HasStopped cause end lanes done sent_now sent_new → HasGathered end lanes start final left sent_start sent_new
     unfolding ends_so
-    broken_off_so {cause} {stopped} going some none carried (inl is_sent) =
+    broken_off_so {cause} going some none carried (inl is_sent) =
         let took : ℕ → List Message = took_of start final in
         let left_so = has_left lanes place start now new final none.taken sent_start sent_now going none.parts.added carried.prefixes in
         let are = carried.lanes_are start (lanes_after left_new going none.parts) in
         let ended : (lane : ℕ) → lane < lanes → IsEnded (took lane) =
         λ lane below. (lane_ended (state_at done lane) (is_sent.2 lane below) (are lane below)).has_ended refl in
         let so = stopped_so cause some going.lawful going.stream going.more going.at_place left_so ended none.cause in
-        subst (λ (e : StageEnd). HasGatheredBy e stopped lanes start final left sent_start sent_new) (sym is_sent.0) (record {
-          gathered = ends_so true done new going some left_so are is_sent.2
-              (sent_with_one sent_start going.gave Stop going.output is_sent.1) (with_stop lanes place start now sent_start sent_now going) so.0 so.1;
-          ended = λ yes. ended;
-          stop_sent = λ yes. (going.gave, refl, going.more);
-        })
-    broken_off_so {end} {stopped} going some none carried (inr gone) =
+        subst (λ (e : StageEnd). HasGathered e lanes start final left sent_start sent_new) (sym is_sent.0)
+        (ends_so true done new going some left_so are is_sent.2
+        (sent_with sent_start going.gave (Stop ∷ []) going.output is_sent.1) (with_stop lanes place start now sent_start sent_now going) so.0 so.1)
+    broken_off_so {end} going some none carried (inr gone) =
         let left_so = has_left lanes place start now new final none.taken sent_start sent_now going none.parts.added carried.prefixes in
         let are = carried.lanes_are start (lanes_after left_new going none.parts) in
-        not_stopped end stopped lanes start final left sent_start sent_new gone.1
-        (subst (λ (e : StageEnd). HasGathered e lanes start final left sent_start sent_new) (sym gone.0) (elim gone.2 [
-          | inl stop ↦ ends_so false done new going some left_so are gone.3
-              (sent_with_one sent_start going.gave Stop going.output stop) (with_stop lanes place start now sent_start sent_now going) tt (λ is dealt_so. tt)
-          | inr same ↦ ends_so false done new going some left_so are gone.3
+        subst (λ (e : StageEnd). HasGathered e lanes start final left sent_start sent_new) (sym gone.0) (elim gone.1 [
+          | inl stop ↦ ends_so false done new going some left_so are gone.2
+              (sent_with sent_start going.gave (Stop ∷ []) going.output stop) (with_stop lanes place start now sent_start sent_now going) tt (λ is dealt_so. tt)
+          | inr same ↦ ends_so false done new going some left_so are gone.2
               (same ∙ going.output) (without_more lanes place start now sent_start sent_now going) tt (λ is dealt_so. tt)
-        ]))
+        ])
 
-    pub broken_off : {count : ℕ} {cause end : StageEnd} {stopped : Bool} → IsGoing lanes place start now sent_start sent_now → 0 < lanes → count ≡ lanes
-        → HasTakenNone count place cause states now new → HasBrokenOffAll cause end stopped count states done new final left_new left sent_now sent_new
-        → HasGatheredBy end stopped lanes start final left sent_start sent_new
-    broken_off {cause} {end} {stopped} going some same none broken =
+    pub broken_off : {count : ℕ} {cause end : StageEnd} → IsGoing lanes place start now sent_start sent_now → 0 < lanes → count ≡ lanes
+        → HasTakenNone count place cause states now new → HasBrokenOffAll cause end count states done new final left_new left sent_now sent_new
+        → HasGathered end lanes start final left sent_start sent_new
+    broken_off {cause} {end} going some same none broken =
         broken_off_so going some (subst (λ (n : ℕ). HasTakenNone n place cause states now new) same none)
         (subst (λ (n : ℕ). CarriesOn n states done new final left_new left) same broken.carried)
-        (subst (λ (n : ℕ). HasStopped cause end stopped n done sent_now sent_new) same broken.breaks)
+        (subst (λ (n : ℕ). HasStopped cause end n done sent_now sent_new) same broken.breaks)
 
-    -- ---- the message couldn't be sent
+    -- ---- the packet couldn't be sent
 
-    pub not_sent : {count : ℕ} {m : Message} {ended : Bool} → IsGoing lanes place start now sent_start sent_now → 0 < lanes → count ≡ lanes
-        → HasTakenWhole count place m states now new → sent_new ≡ sent_now → HasDrainedAll count ended states done new final left_new left
-        → HasGatheredBy PeerGone false lanes start final left sent_start sent_new
-    not_sent {m} {ended} going some same whole sent drained =
-        let taken = subst (λ (n : ℕ). HasTakenWhole n place m states now new) same whole in
+    pub not_sent : {count : ℕ} {next : Place} {packet : Packet} {held : List Held} {ended : Bool} → IsGoing lanes place start now sent_start sent_now
+        → 0 < lanes → count ≡ lanes → HasTakenWhole count place next packet states now new held → sent_new ≡ sent_now
+        → HasDrainedAll count ended states done new final left_new left → HasGathered PeerGone lanes start final left sent_start sent_new
+    not_sent {next} {packet} {held} {ended} going some same whole sent drained =
+        let taken = subst (λ (n : ℕ). HasTakenWhole n place next packet states now new held) same whole in
         let all = subst (λ (n : ℕ). HasDrainedAll n ended states done new final left_new left) same drained in
-        let part : ℕ → List Message = λ lane. dealt_message lane lanes place m in
+        let part : ℕ → List Message = λ lane. dealt_from lane lanes place (messages_in packet) ++ at_lane in_held held lane in
         let left_so = has_left lanes place start now new final part sent_start sent_now going taken.parts.added all.carried.prefixes in
         let are = all.carried.lanes_are start (lanes_after left_new going taken.parts) in
-        not_stopped PeerGone false lanes start final left sent_start sent_new refl (ends_so ended done new going some left_so are all.done
-        (sent ∙ going.output) (without_more lanes place start now sent_start sent_now going) tt (λ is dealt_so. tt))
+        ends_so ended done new going some left_so are all.done
+        (sent ∙ going.output) (without_more lanes place start now sent_start sent_now going) tt (λ is dealt_so. tt)
 
   -- ---- the end of the stream was sent
 
-  pub ends_well : {count : ℕ} {m : Message} (left : ℕ → List Message) → IsGoing lanes place start now sent_start sent_now → 0 < lanes → count ≡ lanes
-      → HasTakenWhole count place m states now new → sent_new ≡ sent_now ++ m ∷ [] → ending_of m ≡ Whole
-      → HasGatheredBy Well false lanes start new left sent_start sent_new
-  ends_well {m} left going some same whole sent is_end =
-      let taken = subst (λ (n : ℕ). HasTakenWhole n place m states now new) same whole in
-      let gave : List Message = going.gave ++ m ∷ [] in
+  pub ends_well : {count : ℕ} {next : Place} {packet : Packet} {held : List Held} (left : ℕ → List Message) → IsGoing lanes place start now sent_start sent_now
+      → 0 < lanes → count ≡ lanes → HasTakenWhole count place next packet states now new held → sent_new ≡ sent_now ++ messages_in packet
+      → ending_of_packet packet ≡ Whole → HasGathered Well lanes start new left sent_start sent_new
+  ends_well {next} {packet} {held} left going some same whole sent is_end =
+      let taken = subst (λ (n : ℕ). HasTakenWhole n place next packet states now new held) same whole in
+      let is : messages_in packet ≡ StreamEnd ∷ [] = is_stream_end packet is_end in
+      let gave : List Message = going.gave ++ StreamEnd ∷ [] in
       let took : ℕ → List Message = λ lane. dealt lane lanes gave in
-      let stream : AllByRecursion IsOfStream gave = each-push IsOfStream going.gave m going.stream taken.is in
-      let lawful : IsLawful gave = lawful_with_one m going taken.may in
-      let end_of : EndsBy Whole gave = ends_as Whole going.gave m going.more is_end in
-      let parts : (lane : ℕ) → dealt lane lanes gave ≡ dealt lane lanes going.gave ++ m ∷ [] = λ lane. with_one_more lane lanes going.gave m
-      ∙ ap (λ (l : List Message). dealt lane lanes going.gave ++ l) (dealt_end lane lanes (place_of Between going.gave) m is_end) in
+      let stream : AllByRecursion IsOfStream gave = each-push IsOfStream going.gave StreamEnd going.stream tt in
+      let lawful : IsLawful gave = subst (λ (l : List Message). IsLawful (going.gave ++ l)) is (lawful_with going.gave (messages_in packet) going.at_place
+      going.lawful taken.lawful) in
+      let end_of : EndsBy Whole gave = ends_as Whole going.gave StreamEnd going.more refl in
+      let parts : (lane : ℕ) → dealt lane lanes gave ≡ dealt lane lanes going.gave ++ StreamEnd ∷ [] = λ lane. dealt_with lane lanes going.gave
+      (StreamEnd ∷ []) going.at_place ∙ ap (λ (l : List Message). dealt lane lanes going.gave ++ l)
+      (append-nil (dealt_message lane lanes place StreamEnd) ∙ dealt_end lane lanes place StreamEnd refl) in
       let ends : (lane : ℕ) → EndsBy Whole (took lane) = λ lane.
-      subst (EndsBy Whole) (sym (parts lane)) (ends_as Whole (dealt lane lanes going.gave) m (dealt_goes_on lane lanes Between going.gave going.more) is_end) in
+      subst (EndsBy Whole) (sym (parts lane)) (ends_as Whole (dealt lane lanes going.gave) StreamEnd (dealt_goes_on lane lanes Between going.gave going.more)
+      refl) in
       let keeps : without_stop gave ≡ gave = stream_keeps_all gave stream in
       let left_so : HasLeft lanes gave (λ lane. []) took =
       record { drained = λ lane. []; parts = λ lane below. sym (append-nil (took lane ++ []) ∙ append-nil (took lane)) } in
-      not_stopped Well false lanes start new left sent_start sent_new refl (record {
+      record {
         took = took;
         gave = gave;
-        inputs = lanes_with_one going taken;
-        output = sent_with_one sent_start going.gave m going.output sent;
+        inputs = λ lane below. given_last (state_at states lane) (start lane) (now lane) (dealt lane lanes going.gave) (at_lane in_held held lane)
+            (dealt_from lane lanes place (messages_in packet)) (going.lanes_are lane below) (taken.parts.added lane below)
+            (ap (dealt_from lane lanes place) is ∙ append-nil (dealt_message lane lanes place StreamEnd) ∙ dealt_end lane lanes place StreamEnd refl)
+            (taken.parts.left lane below) ∙ ap (λ (l : List Message). start lane ++ l) (sym (parts lane));
+        output = sent_with sent_start going.gave (StreamEnd ∷ []) going.output (sent ∙ ap (λ (l : List Message). sent_now ++ l) is);
         seen_taken = λ lane below. inl (inl (ends lane));
         gathered = record {
           ended = (end_of, λ lane below. refl);
@@ -313,15 +332,4 @@ module _ {lanes : ℕ} {place : Place} {states : List LaneState} {start now new 
                 so = sym (prefix.1 ∙ ap (λ (l : List Message). gave ++ l) none ∙ append-nil gave);
               };
         };
-      })
-
--- ---- rows came together
-
-pub refused_rows : {end : StageEnd} {stopped : Bool} (inputs : List Receiver) {lanes : ℕ} {start final left : ℕ → List Message}
-    {sent_start sent_new : List Message} → end ≡ PeerGone → stopped ≡ true → have_received_rows inputs ≡ true
-    → HasGatheredBy end stopped lanes start final left sent_start sent_new
-    → HasGatheredOrRefused (Fault OutOfOrder) inputs lanes start final left sent_start sent_new
-refused_rows {stopped} inputs {lanes} {start} {final} {left} {sent_start} {sent_new} gone is rows by =
-    let there : HasGatheredBy PeerGone stopped lanes start final left sent_start sent_new =
-    subst (λ (e : StageEnd). HasGatheredBy e stopped lanes start final left sent_start sent_new) gone by in
-    inr (refl, record { together = rows; gathered = there.gathered; ended = there.ended is; stopped = there.stop_sent is })
+      }

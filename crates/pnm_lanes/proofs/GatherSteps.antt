@@ -1,14 +1,16 @@
--- Gathering, message by message: what was sent so far is a prefix of a stream, and each lane has given its part of it.
+-- Gathering, packet by packet: what was sent so far is a prefix of a stream, and each lane has given its part of it.
 use Rattle.pnm_lanes.proofs.Words.{◌≡◌, ◌⊎◌, inl, inr, ℕ, zero, suc, take, ◌<◌, List, [], ◌∷◌, ◌++◌, refl, sym, ap, subst, ◌∙◌, append_assoc, append-nil}
 use Rattle.pnm_lanes.proofs.Words.{AllByRecursion, Message, Begin, Row, ImageEnd, StreamEnd, Stop, Place, Between, Inside, After, IsMessage, ending_of, EndsBy}
-use Rattle.pnm_lanes.proofs.Words.{Accepts, IsLawful, place_after, place_of, each-push, lawful_more, place_of-append, Ending, More, BrokenOff, dealt}
-use Rattle.pnm_lanes.proofs.Words.{dealt_message, ends_as, LaneState, Open, Ended, Gone, IsOfStream, state_at, IsLeftBy, HasTakenParts, HasTakenWhole, IsLane}
-use Rattle.pnm_lanes.proofs.Words.{AreLanes}
+use Rattle.pnm_lanes.proofs.Words.{Accepts, IsLawful, IsLawfulFrom, place_after, place_of, place_of-append, Ending, More, Whole, BrokenOff, dealt, dealt_from}
+use Rattle.pnm_lanes.proofs.Words.{EndNothing, ends_nothing, LaneState, Open, Ended, Gone, IsOfStream, state_at, IsLeftBy, HasTakenParts, HasTakenWhole, IsLane}
+use Rattle.pnm_lanes.proofs.Words.{AreLanes, AreHolding, Packet, messages_in, ending_of_packet, Held, in_held, at_lane, IsEnded}
+use Rattle.pnm_image.specs.declared.packet.Packet.TheVariants.{Part, StreamEnd as EndsStream, Stop as Stops}
+use Rattle.pnm_image.proofs.Places.{lawful_append}
 use Rattle.pnm_lanes.proofs.PartLaws.{dealt_from-append}
-use Rattle.pnm_lanes.proofs.DealtParts.{all_of_both, all_messages, dealt_of_stream, dealt_goes_on}
+use Rattle.pnm_lanes.proofs.DealtParts.{all_of_both, all_of_rest, all_messages, dealt_of_stream, dealt_goes_on}
 use Rattle.pnm_lanes.proofs.DrainSteps.{ends_then, ended_then}
 
--- ---- between two messages
+-- ---- between two packets
 
 -- what was sent so far goes on, and each lane has given its part of it
 pub record IsGoing (lanes : ℕ) (place : Place) (start now : ℕ → List Message) (sent_start sent_now : List Message) : Type 0 where
@@ -33,13 +35,6 @@ nothing_yet lanes place start sent at_start = record {
   lanes_are = λ lane below. sym (append-nil (start lane));
 }
 
--- what was sent with one message more
-pub with_one_more : (lane lanes : ℕ) (gave : List Message) (m : Message) → dealt lane lanes (gave ++ m ∷ []) ≡ dealt lane lanes gave ++ dealt_message lane lanes
-    (place_of Between gave) m
-with_one_more lane lanes gave m =
-    dealt_from-append lane lanes Between gave (m ∷ [])
-    ∙ ap (λ (l : List Message). dealt lane lanes gave ++ l) (append-nil (dealt_message lane lanes (place_of Between gave) m))
-
 -- a stream can be broken off after a message that goes on
 can_be_stopped : (place : Place) (m : Message) → Accepts place m → ending_of m ≡ More → Accepts (place_after place m) Stop
 can_be_stopped place (Begin head) may more = tt
@@ -52,57 +47,59 @@ can_be_stopped After ImageEnd may more = tt
 can_be_stopped place StreamEnd may more = absurd cc
 can_be_stopped place Stop may more = absurd cc
 
--- the lanes' parts of one message more
-pub lanes_with_one : {lanes : ℕ} {place : Place} {m : Message} {states : List LaneState} {start now new : ℕ → List Message}
-    {sent_start sent_now : List Message} (going : IsGoing lanes place start now sent_start sent_now) → HasTakenWhole lanes place m states now new
-    → (lane : ℕ) → lane < lanes → new lane ≡ start lane ++ dealt lane lanes (going.gave ++ m ∷ [])
-lanes_with_one {lanes} {place} {m} {start} going taken lane below =
-    let gave : List Message = going.gave in
-    let here : List Message = dealt lane lanes gave in
-    let part : dealt_message lane lanes place m ≡ dealt_message lane lanes (place_of Between gave) m =
-    ap (λ (p : Place). dealt_message lane lanes p m) going.at_place in
-    taken.parts.added lane below
-    ∙ ap (λ (l : List Message). l ++ dealt_message lane lanes place m) (going.lanes_are lane below)
-    ∙ append_assoc (start lane) here (dealt_message lane lanes place m)
-    ∙ ap (λ (l : List Message). start lane ++ (here ++ l)) part
-    ∙ ap (λ (l : List Message). start lane ++ l) (sym (with_one_more lane lanes gave m))
+stoppable_after : (place : Place) (ms : List Message) → Accepts place Stop → IsLawfulFrom place ms → EndNothing ms → Accepts (place_of place ms) Stop
+stoppable_after place [] may lawful none = may
+stoppable_after place (m ∷ ms) may lawful none =
+    stoppable_after (place_after place m) ms (can_be_stopped place m lawful.0 none.0) lawful.1 none.1
 
-pub lawful_with_one : {lanes : ℕ} {place : Place} (m : Message) {start now : ℕ → List Message} {sent_start sent_now : List Message}
-    (going : IsGoing lanes place start now sent_start sent_now) → Accepts place m → IsLawful (going.gave ++ m ∷ [])
-lawful_with_one m going may = lawful_more Between going.gave m going.lawful (subst (λ (p : Place). Accepts p m) going.at_place may)
+-- what a lane gets of what was sent and of what comes behind it
+pub dealt_with : (lane lanes : ℕ) {place : Place} (gave ms : List Message) → place ≡ place_of Between gave
+    → dealt lane lanes (gave ++ ms) ≡ dealt lane lanes gave ++ dealt_from lane lanes place ms
+dealt_with lane lanes gave ms at = dealt_from-append lane lanes Between gave ms
+    ∙ ap (λ (p : Place). dealt lane lanes gave ++ dealt_from lane lanes p ms) (sym at)
 
-pub sent_with_one : (start : List Message) {now new : List Message} (gave : List Message) (m : Message) → now ≡ start ++ gave → new ≡ now ++ m ∷ []
-    → new ≡ start ++ (gave ++ m ∷ [])
-sent_with_one start gave m before added = added ∙ ap (λ (l : List Message). l ++ m ∷ []) before ∙ append_assoc start gave (m ∷ [])
+pub lawful_with : {place : Place} (gave ms : List Message) → place ≡ place_of Between gave → IsLawful gave → IsLawfulFrom place ms → IsLawful (gave ++ ms)
+lawful_with gave ms at lawful more = lawful_append Between gave ms lawful (subst (λ (p : Place). IsLawfulFrom p ms) at more)
 
--- by how a message ends the stream, as a function answers it
-broken_off_by_none : (m : Message) → BrokenOff ≡ ending_of m → IsOfStream m → ending_of m ≡ More
-broken_off_by_none (Begin head) broken is = refl
-broken_off_by_none (Row row) broken is = refl
-broken_off_by_none ImageEnd broken is = refl
-broken_off_by_none StreamEnd broken is = absurd cc
-broken_off_by_none Stop broken is = absurd is
+pub sent_with : (start : List Message) {now new : List Message} (gave ms : List Message) → now ≡ start ++ gave → new ≡ now ++ ms → new ≡ start ++ (gave ++ ms)
+sent_with start gave ms before added = added ∙ ap (λ (l : List Message). l ++ ms) before ∙ append_assoc start gave ms
 
-pub says_more : {a : Ending} (m : Message) → a ≡ ending_of m → (a ≡ More) ⊎ (a ≡ BrokenOff) → IsOfStream m → ending_of m ≡ More
-says_more m says (inl more) is = sym says ∙ more
-says_more m says (inr broken) is = broken_off_by_none m (sym (broken) ∙ says) is
+-- what is left where messages that end nothing go first
+ended_rest : (e : Ending) (a b : List Message) → EndNothing a → EndsBy e (a ++ b) → EndsBy e b ⊎ (e ≡ More)
+ended_rest e [] b none ends = inl ends
+ended_rest e (m ∷ []) [] none ends = inr (sym ends ∙ none.0)
+ended_rest e (m ∷ []) (n ∷ b) none ends = inl ends.1
+ended_rest e (m ∷ k ∷ a) b none ends = ended_rest e (k ∷ a) b none.1 ends.1
 
--- the next message was taken and sent
-pub still_going : (lanes : ℕ) (place next : Place) (m : Message) (states : List LaneState) (start now new : ℕ → List Message)
-    (sent_start sent_now sent_new : List Message)
-    → IsGoing lanes place start now sent_start sent_now → HasTakenWhole lanes place m states now new → sent_new ≡ sent_now ++ m ∷ []
-    → next ≡ place_after place m → ending_of m ≡ More
-    → IsGoing lanes next start new sent_start sent_new
-still_going lanes place next m states start now new sent_start sent_now sent_new going taken added stepped more = record {
-  gave = going.gave ++ m ∷ [];
-  output = sent_with_one sent_start going.gave m going.output added;
-  lawful = lawful_with_one m going taken.may;
-  at_place = stepped ∙ ap (λ (p : Place). place_after p m) going.at_place ∙ sym (place_of-append Between going.gave (m ∷ []));
-  stream = each-push IsOfStream going.gave m going.stream taken.is;
-  more = ends_as More going.gave m going.more more;
-  stoppable = subst (λ (p : Place). Accepts p Stop) (sym stepped) (can_be_stopped place m taken.may more);
-  lanes_are = lanes_with_one going taken;
-}
+more_rest : (a b : List Message) → EndNothing a → EndsBy More (a ++ b) → EndsBy More b
+more_rest [] b none ends = ends
+more_rest (m ∷ []) [] none ends = refl
+more_rest (m ∷ []) (n ∷ b) none ends = ends.1
+more_rest (m ∷ k ∷ a) b none ends = more_rest (k ∷ a) b none.1 ends.1
+
+is_ended_rest : (a b : List Message) → EndNothing a → IsEnded (a ++ b) → IsEnded b
+is_ended_rest a b none (inl whole) = elim (ended_rest Whole a b none whole) [ inl ends ↦ inl ends | inr more ↦ absurd cc ]
+is_ended_rest a b none (inr broken) = elim (ended_rest BrokenOff a b none broken) [ inl ends ↦ inr ends | inr more ↦ absurd cc ]
+
+left_rest : (s : LaneState) (a b : List Message) → EndNothing a → IsLeftBy s (a ++ b) → IsLeftBy s b
+left_rest Open a b none is = (all_of_rest IsMessage a b is.0, more_rest a b none is.1)
+left_rest Ended a b none is = (all_of_rest IsMessage a b is.0, is_ended_rest a b none is.1)
+left_rest Gone a b none is = absurd is
+
+-- by how a packet ends the stream, as a function answers it
+pub says_more : {answer : Ending} (packet : Packet) → answer ≡ ending_of_packet packet → (answer ≡ More) ⊎ (answer ≡ BrokenOff)
+    → AllByRecursion IsOfStream (messages_in packet) → ending_of_packet packet ≡ More
+says_more (Part part) says is stream = refl
+says_more EndsStream says (inl more) stream = sym says ∙ more
+says_more EndsStream says (inr broken) stream = let not = sym says ∙ broken in absurd cc
+says_more Stops says is stream = absurd stream.0
+
+-- what the lanes gave, beside what was sent so far, is held
+pub record IsGathering (lanes : ℕ) (place : Place) (states : List LaneState) (start now : ℕ → List Message) (held : List Held)
+    (sent_start sent_now : List Message) : Type 0 where
+  pub passed : ℕ → List Message
+  pub going : IsGoing lanes place start passed sent_start sent_now
+  pub holding : AreHolding lanes states passed now held
 
 -- ---- once something was taken of each lane
 
@@ -132,13 +129,39 @@ module _ {lanes : ℕ} {place : Place} {states : List LaneState} {start now new 
       (all_messages here (dealt_of_stream lane lanes Between going.gave going.stream)) (dealt_goes_on lane lanes Between going.gave going.more)
       (parts.left lane below)
 
-  -- what is gathered goes on where another list counts the lanes
-  pub goes_further : {count : ℕ} {next : Place} {m : Message} {sent_new : List Message} → IsGoing lanes place start now sent_start sent_now → count ≡ lanes
-      → HasTakenWhole count place m states now new → sent_new ≡ sent_now ++ m ∷ [] → next ≡ place_after place m → ending_of m ≡ More
-      → IsGoing lanes next start new sent_start sent_new
-  goes_further {next} {m} {sent_new} going same whole added stepped more =
-      still_going lanes place next m states start now new sent_start sent_now sent_new going
-      (subst (λ (n : ℕ). HasTakenWhole n place m states now new) same whole) added stepped more
+  -- the next packet was taken and sent
+  pub still_gathering : {count : ℕ} {next : Place} {packet : Packet} {held : List Held} {sent_new : List Message}
+      → IsGoing lanes place start now sent_start sent_now → count ≡ lanes
+      → HasTakenWhole count place next packet states now new held → sent_new ≡ sent_now ++ messages_in packet → ending_of_packet packet ≡ More
+      → IsGathering lanes next states start new held sent_start sent_new
+  still_gathering {next} {packet} {held} going same whole added goes_on =
+      let taken = subst (λ (n : ℕ). HasTakenWhole n place next packet states now new held) same whole in
+      let ms : List Message = messages_in packet in
+      let more : EndsBy More ms = subst (λ (e : Ending). EndsBy e ms) goes_on taken.ends in
+      record {
+        passed = λ lane. now lane ++ dealt_from lane lanes place ms;
+        going = record {
+          gave = going.gave ++ ms;
+          output = sent_with sent_start going.gave ms going.output added;
+          lawful = lawful_with going.gave ms going.at_place going.lawful taken.lawful;
+          at_place = taken.at_next ∙ ap (λ (p : Place). place_of p ms) going.at_place ∙ sym (place_of-append Between going.gave ms);
+          stream = all_of_both IsOfStream going.gave ms going.stream taken.stream;
+          more = ends_then More going.gave ms going.more more;
+          stoppable = subst (λ (p : Place). Accepts p Stop) (sym taken.at_next) (stoppable_after place ms going.stoppable taken.lawful (ends_nothing ms more));
+          lanes_are = λ lane below. ap (λ (l : List Message). l ++ dealt_from lane lanes place ms) (going.lanes_are lane below)
+              ∙ append_assoc (start lane) (dealt lane lanes going.gave) (dealt_from lane lanes place ms)
+              ∙ ap (λ (l : List Message). start lane ++ l) (sym (dealt_with lane lanes going.gave ms going.at_place));
+        };
+        holding = record {
+          parts = record {
+            added = λ lane below. taken.parts.added lane below
+                ∙ sym (append_assoc (now lane) (dealt_from lane lanes place ms) (at_lane in_held held lane));
+            left = λ lane below. left_rest (state_at states lane) (dealt_from lane lanes place ms) (at_lane in_held held lane)
+                (ends_nothing (dealt_from lane lanes place ms) (dealt_goes_on lane lanes place ms more)) (taken.parts.left lane below);
+          };
+          stream = taken.held_stream;
+        };
+      }
 
 -- ---- lanes of which nothing was taken
 

@@ -161,12 +161,10 @@ dealer_ended (Fault OutOfOrder) l there input = input.0
 dealer_ended (Fault Memory) l there input = input
 dealer_ended PeerGone l there input = absurd (there refl)
 
-never_failed : (gatherer : StageEnd) {fault : ToolFault} (js : List Image) (lanes : ℕ) (r : ℕ → List Message) (g : List Message) → gatherer ≡ Fault fault
-    → HasGatheredSo gatherer js lanes r g → ⊥
-never_failed Well js lanes r g same so = absurd cc
-never_failed Broken js lanes r g same so = absurd cc
-never_failed (Fault other) js lanes r g same so = so
-never_failed PeerGone js lanes r g same so = absurd cc
+gatherer_failed : (tool : Tool) (gatherer : StageEnd) (fault : ToolFault) (js : List Image) (lanes : ℕ) (r : ℕ → List Message) (g l : List Message)
+    → gatherer ≡ Fault fault → HasGatheredSo gatherer js lanes r g → IsFaultOf tool fault l
+gatherer_failed tool gatherer fault js lanes r g l is so =
+    subst (λ (f : ToolFault). IsFaultOf tool f l) (sym (subst (λ (e : StageEnd). HasGatheredSo e js lanes r g) is so)) tt
 
 -- ---- together
 
@@ -204,7 +202,7 @@ module _ {tool : Tool} {lanes : ℕ} {dealer : StageEnd} {e : ℕ → StageEnd} 
   cause_tells fault lawful row_wise (inr (inr gathered)) =
       let found = completed in
       let js : List Image = results_before tool found.0 in
-      absurd (never_failed gatherer js lanes r g gathered.2 (run.gathered.images js (results_dealt run lawful row_wise found.0 found.1)).so)
+      gatherer_failed tool gatherer fault js lanes r g l gathered.2 (run.gathered.images js (results_dealt run lawful row_wise found.0 found.1)).so
 
 -- where the gatherer ended well none has failed
 whole_part : {lanes : ℕ} {g : List Message} {r : ℕ → List Message} → IsGathered Well lanes r g → (lane : ℕ) → lane < lanes → EndsBy Whole (r lane)

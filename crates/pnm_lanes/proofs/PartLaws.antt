@@ -2,7 +2,7 @@
 use Rattle.pnm_lanes.proofs.Words.{◌≡◌, ℕ, ◌%◌, ◌<◌, List, [], ◌∷◌, ◌++◌, map, refl, sym, ap, subst, ◌∙◌, append_assoc, arith, eq-eqb, if◌then◌else◌}
 use Rattle.pnm_lanes.proofs.Words.{AllByRecursion, append_cancel_left, mod_below, Message, Begin, Row, ImageEnd, StreamEnd, Stop, Place, Between, Inside, After}
 use Rattle.pnm_lanes.proofs.Words.{Shape, HeadValue, with_height, Accepts, IsLawfulFrom, place_after, place_of, IsPrefixOf, same_first, dealt_height, dealt_row}
-use Rattle.pnm_lanes.proofs.Words.{dealt_head, dealt_message, dealt_from, IsOfStream}
+use Rattle.pnm_lanes.proofs.Words.{dealt_head, dealt_message, dealt_from, IsOfStream, Fits, FitsFrom, ◌+◌}
 use Rattle.std.specs.Prelude.{Bool}
 use Rattle.pnm_lanes.proofs.HeightSums.{same_height}
 
@@ -45,7 +45,7 @@ pub record GoesToLane (lanes : ℕ) (place : Place) (m : Message) : Type 0 where
   pub part : Message
   pub goes : dealt_message lane lanes place m ≡ part ∷ []
 
-goes_to_lane : {lanes : ℕ} (place : Place) (m : Message) → 0 < lanes → Accepts place m → IsOfStream m → GoesToLane lanes place m
+goes_to_lane : {lanes : ℕ} (place : Place) (m : Message) → 0 < lanes → Fits place m → IsOfStream m → GoesToLane lanes place m
 goes_to_lane {lanes} Between (Begin head) some may is = record { lane = 0; below = some; part = Begin (dealt_head 0 lanes head); goes = refl }
 goes_to_lane Between (Row row) some may is = absurd may
 goes_to_lane Between ImageEnd some may is = absurd may
@@ -90,7 +90,7 @@ same_row lanes y s row other a b some prefixes =
     (prefixes lane (mod_below y lanes some))))
 
 -- the lanes' parts of the next message tell it
-next_is_same : (lanes : ℕ) (place : Place) (m n : Message) (x y : ℕ → List Message) → 0 < lanes → Accepts place m → Accepts place n → IsOfStream m
+next_is_same : (lanes : ℕ) (place : Place) (m n : Message) (x y : ℕ → List Message) → 0 < lanes → Fits place m → Accepts place n → IsOfStream m
     → IsOfStream n → ArePrefixes lanes place m n x y → m ≡ n
 next_is_same lanes After m n x y some first second is others prefixes = absurd first
 next_is_same lanes Between Stop n x y some first second is others prefixes = absurd is
@@ -115,7 +115,7 @@ next_is_same lanes (Inside s z) StreamEnd n x y some first second is others pref
 next_is_same lanes (Inside s z) Stop n x y some first second is others prefixes = absurd is
 next_is_same lanes (Inside s z) (Row row) (Begin other) x y some first second is others prefixes = absurd second
 next_is_same lanes (Inside s z) (Row row) (Row other) x y some first second is others prefixes = same_row lanes z s row other x y some prefixes
-next_is_same lanes (Inside s z) (Row row) ImageEnd x y some first second is others prefixes = let below = first.0 in absurd (omega (arith, below, second))
+next_is_same lanes (Inside s z) (Row row) ImageEnd x y some first second is others prefixes = absurd (omega (arith, first, second))
 next_is_same lanes (Inside s z) (Row row) StreamEnd x y some first second is others prefixes = absurd second
 next_is_same lanes (Inside s z) (Row row) Stop x y some first second is others prefixes = absurd others
 next_is_same lanes (Inside s z) ImageEnd (Begin other) x y some first second is others prefixes = absurd second
@@ -132,8 +132,22 @@ not_nothing : {lanes : ℕ} {place : Place} {m : Message} (x : ℕ → List Mess
 not_nothing x goes prefixes =
     no_prefix goes.part (x goes.lane) (subst (λ (l : List Message). IsPrefixOf (l ++ x goes.lane) []) goes.goes (prefixes goes.lane goes.below))
 
+-- a lawful list, which isn't broken off
+pub lawful_fits : (place : Place) (l : List Message) → IsLawfulFrom place l → AllByRecursion IsOfStream l → FitsFrom place l
+lawful_fits place [] lawful are = tt
+lawful_fits Between (Begin head ∷ l) lawful are = (tt, lawful_fits (Inside head.shape 0) l lawful.1 are.1)
+lawful_fits Between (Row row ∷ l) lawful are = absurd lawful.0
+lawful_fits Between (ImageEnd ∷ l) lawful are = absurd lawful.0
+lawful_fits Between (StreamEnd ∷ l) lawful are = (tt, lawful_fits After l lawful.1 are.1)
+lawful_fits (Inside s y) (Begin head ∷ l) lawful are = absurd lawful.0
+lawful_fits (Inside s y) (Row row ∷ l) lawful are = (lawful.0.0, lawful_fits (Inside s (y + 1)) l lawful.1 are.1)
+lawful_fits (Inside s y) (ImageEnd ∷ l) lawful are = (lawful.0, lawful_fits Between l lawful.1 are.1)
+lawful_fits (Inside s y) (StreamEnd ∷ l) lawful are = absurd lawful.0
+lawful_fits After (m ∷ l) lawful are = absurd lawful.0
+lawful_fits place (Stop ∷ l) lawful are = absurd are.0
+
 -- where each lane's part of the one is a prefix of its part of the other, the one is a prefix of the other
-pub parts_tell_the_whole : (lanes : ℕ) (place : Place) (a b : List Message) → 0 < lanes → IsLawfulFrom place a → IsLawfulFrom place b
+pub parts_tell_the_whole : (lanes : ℕ) (place : Place) (a b : List Message) → 0 < lanes → FitsFrom place a → IsLawfulFrom place b
     → AllByRecursion IsOfStream a → AllByRecursion IsOfStream b
     → ((lane : ℕ) → lane < lanes → IsPrefixOf (dealt_from lane lanes place a) (dealt_from lane lanes place b)) → IsPrefixOf a b
 parts_tell_the_whole lanes place [] b some first second is others prefixes = (b, refl)

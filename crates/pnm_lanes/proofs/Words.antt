@@ -7,7 +7,7 @@ pub use Rattle.pnm_image.specs.Heads.{HeadValue, IsHead, with_height}
 pub use Rattle.pnm_image.specs.Images.{AreImages, Image, IsImage, messages_of_image, messages_of_stream, rows_of}
 pub use Rattle.pnm_image.specs.Messages.{EndsBy, IsMessage, ending_of, without_stop}
 pub use Rattle.pnm_image.specs.Packets.{ending_of_packet, messages_in, packet_list}
-pub use Rattle.pnm_image.specs.Parts.{end_messages, head_messages, part_messages}
+pub use Rattle.pnm_image.specs.Parts.{end_messages, head_messages, part_messages, rest_messages}
 pub use Rattle.pnm_image.specs.Places.{Accepts, IsLawful, IsLawfulFrom, place_after, place_of}
 pub use Rattle.pnm_image.specs.Rows.{every, row_messages, rows_list}
 pub use Rattle.pnm_image.specs.declared.limits.TheConstants.{MAX_SIDE}
@@ -20,15 +20,18 @@ pub use Rattle.pnm_image.specs.declared.place.Place.{Place}
 pub use Rattle.pnm_image.specs.declared.place.Place.TheVariants.{After, Between, Inside}
 pub use Rattle.pnm_image.specs.declared.shape.Shape.{Shape}
 pub use Rattle.pnm_lanes.specs.Deals.{AtEach, AtEachFrom, HasDealt, HasLane, HasReceivedSo, HasSentSo, IsPrefixOfDealt}
-pub use Rattle.pnm_lanes.specs.Gathers.{AreDealt, AreSameInputs, BeginsOrEnds, HasGathered, HasGatheredOrRefused, HasGatheredSo, HasPassedSo, HasSentAll}
-pub use Rattle.pnm_lanes.specs.Gathers.{IsGathered, IsStopped, at_lane, have_received_rows}
+pub use Rattle.pnm_lanes.specs.Gathers.{AreDealt, AreSameInputs, BeginsOrEnds, HasGathered, HasGatheredSo, HasPassedSo, HasSentAll}
+pub use Rattle.pnm_lanes.specs.Gathers.{IsGathered, IsStopped, at_lane}
 pub use Rattle.pnm_lanes.specs.Internal.DealParts.{AreLeftFrom, HasBrokenOffDealing, HasDealtAll, HasDealtMessages, HasLeftOff, HasSentParts, HasTakenLawful}
 pub use Rattle.pnm_lanes.specs.Internal.DealParts.{IsReason, IsRefused, IsSameEnd, IsSentAll, IsSentPart, IsSentTo, dealt_begin, part_at, row_at}
 pub use Rattle.pnm_lanes.specs.Internal.DealParts.{stream_end}
-pub use Rattle.pnm_lanes.specs.Internal.GatherParts.{AreAlike, AreDealtHeights, AreLanes, AreOpen, AwaitsNoRow, BeginsNone, CarriesOn, HasBrokenOffAll}
-pub use Rattle.pnm_lanes.specs.Internal.GatherParts.{HasDrainedAll, HasDrainedOne, HasGatheredBy, HasStopped, HasTakenAlike, HasTakenFrom, HasTakenLike}
-pub use Rattle.pnm_lanes.specs.Internal.GatherParts.{HasTakenNext, HasTakenNone, HasTakenParts, HasTakenWhole, IsAgreed, IsCause, IsDone, IsLane, IsLeftBy}
-pub use Rattle.pnm_lanes.specs.Internal.GatherParts.{IsNotAgreed, IsOfStream, LaneHasGiven, height_in, state_at, state_by, states_after}
+pub use Rattle.pnm_lanes.specs.Internal.GatherParts.{AreDealtHeights, AreLanes, BeginsNone, CarriesOn, HasBrokenOffAll}
+pub use Rattle.pnm_lanes.specs.Internal.GatherParts.{HasDrainedAll, HasDrainedOne, HasStopped}
+pub use Rattle.pnm_lanes.specs.Internal.GatherParts.{HasTakenNext, HasTakenNone, HasTakenParts, HasTakenWhole, IsCause, IsDone, IsLane, IsLeftBy}
+pub use Rattle.pnm_lanes.specs.Internal.GatherParts.{IsOfStream, state_at, state_by}
+pub use Rattle.pnm_lanes.specs.Internal.GatherParts.{AreDealtHeads, AreHolding, Fits, FitsFrom, HasAddedRows, HasFilled, HasPassed, HoldEach, HoldNext}
+pub use Rattle.pnm_lanes.specs.Internal.GatherParts.{IsNotTogether}
+pub use Rattle.pnm_lanes.specs.Internal.HeldMessages.{HasPassedRow, held_messages, in_held, last_messages, next_of, rows_left}
 pub use Rattle.pnm_lanes.specs.Internal.LaneLaws.{dealt_head_result}
 pub use Rattle.pnm_lanes.specs.LaneLaws.{dealt_images, results_before}
 pub use Rattle.pnm_lanes.specs.LaneLimits.{IsLaneCount}
@@ -37,6 +40,8 @@ pub use Rattle.pnm_lanes.specs.LaneRuns.{AreLanesRun, HasRunLanes, HaveRun, IsLa
 pub use Rattle.pnm_lanes.specs.Lanes.{AreThere, HasFailedInLanes, HaveLanesEndedSo, HaveThreadsRun, IsEndOfAll, IsFaultOf, IsFine, IsFirstOfThreads}
 pub use Rattle.pnm_lanes.specs.Lanes.{IsFirstRefusedHead, IsStageOfLanes}
 pub use Rattle.pnm_lanes.specs.declared.around.OuterRingEnds.{OuterRingEnds}
+pub use Rattle.pnm_lanes.specs.declared.held.Held.{Held}
+pub use Rattle.pnm_lanes.specs.declared.held.Next.{Next}
 pub use Rattle.pnm_lanes.specs.declared.lane.LaneState.{LaneState}
 pub use Rattle.pnm_lanes.specs.declared.lane.LaneState.TheVariants.{Ended, Gone, Open}
 pub use Rattle.pnm_lanes.specs.declared.lane_rings.LaneRingEnds.{LaneRingEnds}
@@ -45,7 +50,7 @@ pub use Rattle.pnm_stages.proofs.EndingLaws.{ends_stream, nothing_follows, one_e
 pub use Rattle.pnm_stages.proofs.PrefixLaws.{lawful_prefix_of_longest, prefix_without_stop, stop_is_cut}
 pub use Rattle.pnm_stages.proofs.RingSteps.{ends_as, ends_nothing, itself_input, itself_output, same_input, same_output, still_pair}
 pub use Rattle.pnm_stages.specs.Prefixes.{IsLongestLawfulPrefix, IsPrefixOfDue}
-pub use Rattle.pnm_stages.specs.Rings.{EndsAtMostOnce, Extends, HasDrainedAfter, IsEnded, IsPair, SameReceiver, SameSender, has_received_rows, known_items}
+pub use Rattle.pnm_stages.specs.Rings.{EndsAtMostOnce, Extends, HasDrainedAfter, IsEnded, IsPair, SameReceiver, SameSender, known_items}
 pub use Rattle.pnm_stages.specs.Rings.{received, sent}
 pub use Rattle.pnm_stages.specs.Stages.{HasBrokenOff, HasEndedSo, HasEndedWell, HasFailed, IsStage}
 pub use Rattle.pnm_stages.specs.declared.receiver.Receiver.{Receiver}

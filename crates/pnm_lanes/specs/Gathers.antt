@@ -1,15 +1,15 @@
 -- What the gatherer of lanes has received and sent once it has ended: the lanes' messages, put together again.
-use Rattle.std.specs.Prelude.{◌≡◌, ◌⊎◌, ◌<◌, ℕ, zero, suc, Bool, IsTrue, List, [], ◌∷◌, ◌++◌}
-use Rattle.std.specs.List.{AllByRecursion, list_any}
+use Rattle.std.specs.Prelude.{◌≡◌, ◌⊎◌, ◌<◌, ℕ, zero, suc, List, [], ◌∷◌, ◌++◌}
+use Rattle.std.specs.List.{AllByRecursion}
 use Rattle.pnm_stages.specs.declared.receiver.Receiver.{Receiver}
-use Rattle.pnm_stages.specs.Rings.{SameReceiver, has_received_rows}
+use Rattle.pnm_stages.specs.Rings.{SameReceiver}
 use Rattle.pnm_image.specs.declared.message.Message.{Message}
 use Rattle.pnm_image.specs.declared.message.Message.TheVariants.{Begin, Row, ImageEnd, StreamEnd, Stop}
 use Rattle.pnm_image.specs.Completion.{IsPrefixOf}
 use Rattle.pnm_image.specs.Images.{Image, AreImages, messages_of_stream}
 use Rattle.pnm_image.specs.Messages.{IsMessage, without_stop, EndsBy}
 use Rattle.pnm_image.specs.Places.{IsLawful}
-use Rattle.pnm_tools.specs.declared.fault.ToolFault.TheVariants.{OutOfOrder}
+use Rattle.pnm_tools.specs.declared.fault.ToolFault.TheVariants.{OutOfOrder, Memory}
 use Rattle.pnm_image.specs.declared.message.Ending.TheVariants.{More, Whole, BrokenOff}
 use Rattle.pnm_tools.specs.Dealing.{dealt}
 use Rattle.pnm_stages.specs.declared.stage.StageEnd.{StageEnd}
@@ -44,8 +44,8 @@ abbrev pub HasPassedSo : StageEnd → ℕ → (ℕ → List Message) → List Me
 HasPassedSo Well lanes took gave = EndsBy Whole gave × ((lane : ℕ) → lane < lanes → took lane ≡ dealt lane lanes gave)
 HasPassedSo Broken lanes took gave = ((lane : ℕ) → lane < lanes → IsEnded (took lane))
     × ((lane : ℕ) × (lane < lanes) × EndsBy BrokenOff (took lane)) × IsStopped gave
-HasPassedSo (Fault fault) lanes took gave = (fault ≡ OutOfOrder) × ((lane : ℕ) → lane < lanes → IsEnded (took lane))
-    × IsStopped gave
+HasPassedSo (Fault fault) lanes took gave = ((fault ≡ OutOfOrder) ⊎ (fault ≡ Memory))
+    × ((lane : ℕ) → lane < lanes → IsEnded (took lane)) × IsStopped gave
 HasPassedSo PeerGone lanes took gave = Unit {0}
 
 -- ---- lanes to which the messages of images were dealt
@@ -71,11 +71,11 @@ HasSentAll is lanes took gave =
     → ((lane : ℕ) → lane < lanes → IsPrefixOf (dealt lane lanes (prefix ++ m ∷ [])) (took lane))
     → IsPrefixOf (prefix ++ m ∷ []) gave
 
--- the end is never a fault then. Well: the stream of these images was sent. Broken: all that all lanes gave was.
+-- the only fault is want of memory then. Well: the stream of these images was sent. Broken: all that all lanes gave was.
 abbrev pub HasGatheredSo : StageEnd → List Image → ℕ → (ℕ → List Message) → List Message → Type 0
 HasGatheredSo Well is lanes took gave = gave ≡ messages_of_stream is
 HasGatheredSo Broken is lanes took gave = HasSentAll is lanes took gave
-HasGatheredSo (Fault fault) is lanes took gave = ⊥
+HasGatheredSo (Fault fault) is lanes took gave = fault ≡ Memory
 HasGatheredSo PeerGone is lanes took gave = Unit {0}
 
 pub record HasGatheredImages (end : StageEnd) (is : List Image) (lanes : ℕ) (took : ℕ → List Message)
@@ -106,25 +106,3 @@ pub record HasGathered (end : StageEnd) (lanes : ℕ) (received_old received_new
   pub output : sent_new ≡ sent_old ++ gave
   pub seen_taken : (lane : ℕ) → lane < lanes → IsEnded (took lane) ⊎ (seen lane ≡ [])
   pub gathered : IsGathered end lanes took gave
-
--- ---- where rows come together
-
--- whether messages that were sent together were received on one of these ends
-abbrev pub have_received_rows : List Receiver → Bool
-have_received_rows inputs = list_any has_received_rows inputs
-
--- a gatherer has refused messages that came together in a lane's ring: Stop was sent and each lane has ended. What was
--- sent before is what may be sent where the other end of a ring was seen dropped.
-pub record HasRefusedRows (inputs : List Receiver) (lanes : ℕ) (received_old received_new seen : ℕ → List Message)
-    (sent_old sent_new : List Message) : Type 0 where
-  pub together : IsTrue (have_received_rows inputs)
-  pub gathered : HasGathered PeerGone lanes received_old received_new seen sent_old sent_new
-  pub ended : (lane : ℕ) → lane < lanes → IsEnded (gathered.took lane)
-  pub stopped : IsStopped gathered.gave
-
--- by whatever comes on these ends: a gatherer has ended as where each message comes by itself, or by OutOfOrder
-abbrev pub HasGatheredOrRefused : StageEnd → List Receiver → ℕ → (ℕ → List Message) → (ℕ → List Message)
-    → (ℕ → List Message) → List Message → List Message → Type 0
-HasGatheredOrRefused end inputs lanes received_old received_new seen sent_old sent_new =
-    HasGathered end lanes received_old received_new seen sent_old sent_new
-    ⊎ ((end ≡ Fault OutOfOrder) × HasRefusedRows inputs lanes received_old received_new seen sent_old sent_new)

@@ -1,36 +1,53 @@
-//! Whether the messages that the lanes give for one message of the whole stream agree, and which message that is.
+//! Whether the heads that the lanes give for an image agree, and which head that image has.
 
-ghost use Rattle.std.specs.Prelude.{◌≡◌, ◌↔◌, ℕ, ◌≤◌, ◌<◌, length, IsTrue, IfSome, IfNone, sum};
-ghost use Rattle.pnm_tools.specs.Dealing.{dealt_height};
-ghost use Rattle.pnm_image.specs.Heads.{with_height};
-ghost use Rattle.pnm_lanes.specs.Internal.GatherParts.{height_in, AreAlike, IsAgreed, IsNotAgreed, AreDealtHeights};
+ghost use Rattle.std.specs.Prelude.{◌≡◌, ◌↔◌, ℕ, ◌≤◌, ◌<◌, [], ◌∷◌, length, IsTrue, IfSome, IfNone, sum};
+ghost use Rattle.pnm_tools.specs.Dealing.{dealt_head, dealt_height};
+ghost use Rattle.pnm_image.specs.Completion.{IsPrefixOf};
+ghost use Rattle.pnm_image.specs.Heads.{HeadValue, IsHead, with_height};
+ghost use Rattle.pnm_image.specs.declared.message.Message.TheVariants.{Begin};
+ghost use Rattle.pnm_lanes.specs.Gathers.{at_lane};
+ghost use Rattle.pnm_lanes.specs.Internal.GatherParts.{AreDealtHeads, AreDealtHeights};
+ghost use Rattle.pnm_lanes.specs.Internal.HeldMessages.{in_held};
 
 use crate::dealing::dealt_height;
+use crate::held::Held;
 use crate::lane::MAX_LANES;
 use pnm_image::limits::MAX_SIDE;
-use pnm_image::{Head, Message, Shape};
+use pnm_image::{Head, Shape};
 
-/// The height of the image that the message begins, or 0 if it begins none.
-pub fn height_of(message: &Message) -> u32
-    ensures height { result ≡ height_in message.now }
-    ensures within { result ≤ MAX_SIDE }
+/// Takes the heads of all lanes, and returns that of the image whose rows were dealt to them. Returns `None` if there is
+/// no such image.
+pub fn take_heads(held: &mut [Held]) -> Option<Head>
+    requires some { 1 ≤ length held.old }
+    requires few { length held.old ≤ MAX_LANES }
+    ensures taken { IfSome result (λ head. (lane : ℕ) → lane < length held.old → at_lane in_held held.old lane
+        ≡ Begin (dealt_head lane (length held.old) head) ∷ at_lane in_held held.new lane) }
+    ensures none { IfNone result ((head : HeadValue) → IsHead head
+        → AreDealtHeads (length held.old) head (at_lane in_held held.old) → ⊥) }
+    ensures as_many { length held.new ≡ length held.old }
 {
-    match message {
-        Message::Begin(head) => head.shape().height,
-        _ => 0,
+    let first = held[0].take_head()?;
+    let mut heights = [0; MAX_LANES];
+    heights[0] = first.shape().height;
+    for lane in 1..held.len() {
+        heights[lane] = take_alike(&mut held[lane], &first)?;
     }
+    let height = whole_height(&heights[..held.len()])?;
+    Some(first.with_height(height))
 }
 
-/// Whether the two messages are those of two lanes for one message of the whole stream: two heads that differ at most
-/// in the height, two ends of an image, or two ends of the stream.
-pub fn are_alike(first: &Message, other: &Message) -> bool
-    ensures { IsTrue result ↔ AreAlike first.now other.now }
+/// Takes the head of a lane, and returns its height if it is like the first lane's head.
+fn take_alike(held: &mut Held, first: &Head) -> Option<u32>
+    ensures alike { IfSome result (λ height.
+        in_held held.old ≡ Begin (with_height first.now height) ∷ in_held held.new) }
+    ensures not { IfNone result ((height : ℕ)
+        → IsPrefixOf (Begin (with_height first.now height) ∷ []) (in_held held.old) → ⊥) }
 {
-    match (first, other) {
-        (Message::Begin(first), Message::Begin(other)) => are_heads_alike(first, other),
-        (Message::ImageEnd, Message::ImageEnd) | (Message::StreamEnd, Message::StreamEnd) => true,
-        _ => false,
+    let head = held.take_head()?;
+    if !are_heads_alike(first, &head) {
+        return None;
     }
+    Some(head.shape().height)
 }
 
 /// Whether the two heads differ at most in the height.
@@ -48,7 +65,7 @@ fn are_heads_alike(first: &Head, other: &Head) -> bool
 
 /// The height of the image whose parts in the lanes have these heights. Returns `None` if no height within the limits
 /// has such parts.
-pub fn whole_height(heights: &[u32]) -> Option<u32>
+fn whole_height(heights: &[u32]) -> Option<u32>
     requires some { 1 ≤ length heights.now }
     requires few { length heights.now ≤ MAX_LANES }
     ensures found { IfSome result (λ height. (height ≤ MAX_SIDE) × AreDealtHeights heights.now height) }
@@ -77,21 +94,4 @@ fn sum_of(heights: &[u32]) -> Option<u32>
         return None;
     }
     Some(sum as u32)
-}
-
-/// The message of the whole stream for which the lanes have given messages like `first`, with these heights. Returns
-/// `None` if there is no such message.
-pub fn agreed(first: Message, heights: &[u32]) -> Option<Message>
-    requires some { 1 ≤ length heights.now }
-    requires few { length heights.now ≤ MAX_LANES }
-    ensures found { IfSome result (λ m. IsAgreed first heights.now m) }
-    ensures none { IfNone result (IsNotAgreed first heights.now) }
-{
-    match first {
-        Message::Begin(head) => {
-            let height = whole_height(heights)?;
-            Some(Message::Begin(head.with_height(height)))
-        }
-        other => Some(other),
-    }
 }

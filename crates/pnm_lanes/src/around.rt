@@ -7,7 +7,7 @@ ghost use Rattle.pnm_lanes.specs.LaneLimits.{IsLaneCount};
 ghost use Rattle.pnm_lanes.specs.LaneRuns.{HaveDealtAndGathered, IsDealerRun, IsGathererRun, AreAround};
 
 use crate::dealing::{DealDone, deal};
-use crate::gathering::{GatherDone, gather_from_lanes};
+use crate::gathering::{GatherDone, gather};
 use crate::merging::LanesDone;
 use pnm_stages::{Receiver, Sender, StageDone, Task, run_both};
 use std::alloc::Global;
@@ -52,6 +52,7 @@ impl<'a, R: Wait> Task for Dealer<'a, R> {
 #[derive(Drop)]
 struct Gatherer<'a, R> {
     rt: &'a R,
+    alloc: Global,
     inputs: Vec<Receiver>,
     output: Sender,
 }
@@ -64,7 +65,7 @@ impl<'a, R: Wait> Task for Gatherer<'a, R> {
     ghost run_gives = { λ g done. IsGathererRun g.inputs.items g.output done };
 
     fn run(self) -> GatherDone {
-        gather_from_lanes(self.rt, self.inputs, self.output)
+        gather(self.rt, self.alloc, self.inputs, self.output)
     }
 }
 
@@ -114,7 +115,12 @@ pub fn deal_and_gather<R: Threads + Wait + Sync, T: Task<Output = B> + Drop, B: 
         inputs,
         output,
     } = outer;
-    let gatherer = Gatherer { rt, inputs, output };
+    let gatherer = Gatherer {
+        rt,
+        alloc,
+        inputs,
+        output,
+    };
     let dealing = DealerAndBeside {
         rt,
         dealer: Dealer {

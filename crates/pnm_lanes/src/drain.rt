@@ -92,7 +92,7 @@ fn drain_one(input: &mut Receiver) -> Option<LaneState>
 }
 
 /// The state of a lane after this packet.
-fn state_after(packet: &Packet) -> LaneState
+pub fn state_after(packet: &Packet) -> LaneState
     ensures { result ≡ state_by (ending_of_packet packet.now) }
 {
     match packet.ending() {

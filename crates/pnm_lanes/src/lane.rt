@@ -1,16 +1,25 @@
-//! A lane whose messages are gathered: what is taken from it, and whether it has ended.
+//! A lane whose messages are gathered: what is received of it, and whether it has ended.
 
-ghost use Rattle.std.specs.Prelude.{◌<◌, ◌≤◌, length};
+ghost use Rattle.std.specs.Prelude.{◌≡◌, ◌<◌, ◌≤◌, ℕ, List, [], length, OnOk};
+ghost use Rattle.pnm_image.specs.declared.message.Message.{Message};
+ghost use Rattle.pnm_image.specs.declared.place.Place.{Place};
 ghost use Rattle.pnm_stages.specs.Rings.{received};
 ghost use Rattle.pnm_lanes.specs.Gathers.{at_lane, AreSameInputs};
-ghost use Rattle.pnm_lanes.specs.Internal.GatherParts.{HasTakenFrom};
+ghost use Rattle.pnm_lanes.specs.Internal.GatherParts.{AreHolding, HasFilled};
+ghost use Rattle.pnm_lanes.specs.Internal.HeldMessages.{in_held};
 
-use pnm_image::{Ending, Message};
+use crate::drain::state_after;
+use crate::held::{Held, Next};
 use pnm_stages::{Receiver, StageEnd};
+use pnm_tools::ToolFault;
+use std::alloc::Global;
 use std::sync::Wait;
 
 /// The most lanes of a tool.
 pub const MAX_LANES: usize = 8;
+
+/// There is no memory for rows that are put together.
+pub const OUT_OF_MEMORY: StageEnd = StageEnd::Fault(ToolFault::Memory);
 
 /// What is known of a lane.
 #[derive(Clone, Copy, PartialEq, Eq)]
@@ -23,34 +32,43 @@ pub enum LaneState {
     Gone,
 }
 
-/// Receives the next message of a lane that hasn't ended. Returns `Broken` if it is Stop. Returns `PeerGone` once the
-/// lane's ring is empty and its other end was seen dropped, and if several messages that were sent together come next,
-/// which no lane sends; they stay in the ring.
-pub fn receive_from<R: Wait>(
+/// Receives what comes next of a lane, if nothing is held of it. Returns `Broken` if that is Stop, and `Fault` if there
+/// is no memory for rows that repeat. Returns `PeerGone` once the lane's ring is empty and its other end was seen
+/// dropped.
+pub fn fill<R: Wait>(
     rt: &R,
+    alloc: Global,
     inputs: &mut [Receiver],
     states: &mut [LaneState],
+    held: &mut [Held],
     lane: usize,
-) -> Result<Message, StageEnd>
+) -> Result<(), StageEnd>
     requires lane { lane < length inputs.old }
     requires states { length inputs.old ≤ length states.old }
+    requires held { length inputs.old ≡ length held.old }
     ensures inputs { AreSameInputs inputs.old inputs.new }
-    ensures taken { HasTakenFrom lane result states.old states.new (at_lane received inputs.old)
-        (at_lane received inputs.new) }
+    ensures filled { (place : Place) (passed : ℕ → List Message)
+        → AreHolding (length inputs.old) states.old passed (at_lane received inputs.old) held.old
+        → HasFilled (length inputs.old) place result states.new passed (at_lane received inputs.new) held.new }
+    ensures holds { OnOk result (1 ≤ length (at_lane in_held held.new lane)) }
+    ensures others { OnOk result ((other : ℕ) → 1 ≤ length (at_lane in_held held.old other)
+        → 1 ≤ length (at_lane in_held held.new other)) }
+    ensures as_many { (length states.new ≡ length states.old) × (length held.new ≡ length held.old) }
 {
-    let Some(message) = inputs[lane].receive_message(rt) else {
+    if held[lane].next() != Next::Nothing {
+        return Ok(());
+    }
+    let Some(packet) = inputs[lane].receive(rt) else {
         return Err(StageEnd::PeerGone);
     };
-    let ending = message.ending();
-    match ending {
-        Ending::More => Ok(message),
-        Ending::Whole => {
-            states[lane] = LaneState::Ended;
-            Ok(message)
-        }
-        Ending::BrokenOff => {
-            states[lane] = LaneState::Ended;
-            Err(StageEnd::Broken)
-        }
+    states[lane] = state_after(&packet);
+    let Ok(given) = Held::of(alloc, packet) else {
+        return Err(OUT_OF_MEMORY);
+    };
+    let next = given.next();
+    held[lane] = given;
+    if next == Next::Stop {
+        return Err(StageEnd::Broken);
     }
+    Ok(())
 }

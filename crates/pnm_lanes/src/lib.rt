@@ -6,11 +6,13 @@ mod around;
 mod dealing;
 mod drain;
 mod gathering;
+mod held;
 mod lane;
 mod lane_rings;
 pub mod laws;
 mod merging;
 mod next;
+mod together;
 
 pub use around::{OuterRingEnds, deal_and_gather};
 pub use dealing::{DealDone, deal, dealt_height};

@@ -1,113 +1,124 @@
-//! The next message of the whole stream, taken from the lanes: a row of one lane, or a message of each.
+//! What comes next of the whole stream, put together of what the lanes have given.
 
-ghost use Rattle.std.specs.Prelude.{◌<◌, ◌≤◌, length};
+ghost use Rattle.std.specs.Prelude.{◌≡◌, ◌<◌, ◌≤◌, ◌%◌, ℕ, List, length, OnOk};
+ghost use Rattle.pnm_image.specs.declared.message.Message.{Message};
+ghost use Rattle.pnm_image.specs.declared.place.Place.{Place as PlaceValue};
 ghost use Rattle.pnm_stages.specs.Rings.{received};
 ghost use Rattle.pnm_lanes.specs.Gathers.{at_lane, AreSameInputs};
-ghost use Rattle.pnm_lanes.specs.Internal.GatherParts.{AreOpen, AwaitsNoRow, HasTakenAlike, HasTakenNext};
+ghost use Rattle.pnm_lanes.specs.Internal.GatherParts.{AreHolding, HasFilled, HasTakenNext, HoldEach, HoldNext};
+ghost use Rattle.pnm_lanes.specs.Internal.HeldMessages.{in_held};
 
-use crate::agreement::{agreed, are_alike, height_of};
-use crate::lane::{LaneState, MAX_LANES, receive_from};
-use pnm_image::{Message, Place, Shape};
+use crate::held::Held;
+use crate::lane::{LaneState, MAX_LANES, fill};
+use crate::together::{OUT_OF_ORDER, put_together};
+use pnm_image::{Packet, Place};
 use pnm_stages::{Receiver, StageEnd};
-use pnm_tools::ToolFault;
+use std::alloc::Global;
 use std::sync::Wait;
 
-/// The lanes don't agree, or a message is out of place.
-pub const OUT_OF_ORDER: StageEnd = StageEnd::Fault(ToolFault::OutOfOrder);
-
-/// Receives the next message of the whole stream. Returns `Broken` if a lane gives Stop, and `Fault` if the lanes don't
-/// agree on the message, or it is out of place. Returns `PeerGone` if a lane's other end was seen dropped before, and
-/// if several messages come together, which stay in the lane's ring.
+/// Receives what comes next of the whole stream, and goes on to the place after it. Returns `Broken` if a lane gives
+/// Stop, and `Fault` if the lanes don't agree, if something is out of place, or if there is no memory for rows together.
+/// Returns `PeerGone` if a lane's other end was seen dropped before.
 pub fn receive_next<R: Wait>(
     rt: &R,
+    alloc: Global,
     inputs: &mut [Receiver],
     states: &mut [LaneState],
-    place: Place,
-) -> Result<Message, StageEnd>
+    held: &mut [Held],
+    place: &mut Place,
+) -> Result<Packet, StageEnd>
     requires some { 1 ≤ length inputs.old }
     requires few { length inputs.old ≤ MAX_LANES }
     requires states { length inputs.old ≤ length states.old }
-    requires all_open { AreOpen states.old }
+    requires held { length inputs.old ≡ length held.old }
     ensures inputs { AreSameInputs inputs.old inputs.new }
-    ensures taken { HasTakenNext (length inputs.old) place result states.new (at_lane received inputs.old)
-        (at_lane received inputs.new) }
+    ensures taken { (passed : ℕ → List Message)
+        → AreHolding (length inputs.old) states.old passed (at_lane received inputs.old) held.old
+        → HasTakenNext (length inputs.old) place.old place.new result states.new passed
+        (at_lane received inputs.new) held.new }
+    ensures as_many { (length states.new ≡ length states.old) × (length held.new ≡ length held.old) }
+{
+    await_lanes(rt, alloc, inputs, states, held, *place)?;
+    let packet = put_together(alloc, held, *place)?;
+    let Some(next) = place.after(&packet) else {
+        return Err(OUT_OF_ORDER);
+    };
+    *place = next;
+    Ok(packet)
+}
+
+/// Receives of each lane from which something comes next, if nothing is held of it.
+fn await_lanes<R: Wait>(
+    rt: &R,
+    alloc: Global,
+    inputs: &mut [Receiver],
+    states: &mut [LaneState],
+    held: &mut [Held],
+    place: Place,
+) -> Result<(), StageEnd>
+    requires some { 1 ≤ length inputs.old }
+    requires states { length inputs.old ≤ length states.old }
+    requires held { length inputs.old ≡ length held.old }
+    ensures inputs { AreSameInputs inputs.old inputs.new }
+    ensures filled { (passed : ℕ → List Message)
+        → AreHolding (length inputs.old) states.old passed (at_lane received inputs.old) held.old
+        → HasFilled (length inputs.old) place result states.new passed (at_lane received inputs.new) held.new }
+    ensures next { OnOk result (HoldNext (length inputs.old) place held.new) }
+    ensures as_many { (length states.new ≡ length states.old) × (length held.new ≡ length held.old) }
 {
     match place {
-        Place::Inside(shape, y) if y < shape.height => { receive_row(rt, inputs, states, shape, y) }
-        _ => receive_of_each(rt, inputs, states, place),
+        Place::Inside(shape, y) if y < shape.height => await_row(rt, alloc, inputs, states, held, y),
+        _ => fill_each(rt, alloc, inputs, states, held),
     }
 }
 
-/// The row of this number, of an image of this shape that has more rows: its lane's next message.
-fn receive_row<R: Wait>(
+/// Receives of the lane of row `y`. If that was dealt more together with the row, each of the others was dealt its part,
+/// too, and is received of.
+fn await_row<R: Wait>(
     rt: &R,
+    alloc: Global,
     inputs: &mut [Receiver],
     states: &mut [LaneState],
-    shape: Shape,
+    held: &mut [Held],
     y: u32,
-) -> Result<Message, StageEnd>
+) -> Result<(), StageEnd>
     requires some { 1 ≤ length inputs.old }
     requires states { length inputs.old ≤ length states.old }
-    requires all_open { AreOpen states.old }
-    requires below { y < shape.height }
+    requires held { length inputs.old ≡ length held.old }
     ensures inputs { AreSameInputs inputs.old inputs.new }
-    ensures taken { HasTakenNext (length inputs.old) (Place.Inside shape y) result states.new
-        (at_lane received inputs.old)
-        (at_lane received inputs.new) }
+    ensures filled { (place : PlaceValue) (passed : ℕ → List Message)
+        → AreHolding (length inputs.old) states.old passed (at_lane received inputs.old) held.old
+        → HasFilled (length inputs.old) place result states.new passed (at_lane received inputs.new) held.new }
+    ensures row { OnOk result (1 ≤ length (at_lane in_held held.new (y % length inputs.old))) }
+    ensures as_many { (length states.new ≡ length states.old) × (length held.new ≡ length held.old) }
 {
     let lane = y as usize % inputs.len();
-    let message = receive_from(rt, inputs, states, lane)?;
-    if !Place::Inside(shape, y).accepts(&message) {
-        return Err(OUT_OF_ORDER);
+    fill(rt, alloc, inputs, states, held, lane)?;
+    if held[lane].are_rows_together() {
+        return fill_each(rt, alloc, inputs, states, held);
     }
-    Ok(message)
+    Ok(())
 }
 
-/// Receives the next message at a place where no row comes: one message of each lane, put together.
-fn receive_of_each<R: Wait>(
+/// Receives from each lane of which nothing is held.
+fn fill_each<R: Wait>(
     rt: &R,
+    alloc: Global,
     inputs: &mut [Receiver],
     states: &mut [LaneState],
-    place: Place,
-) -> Result<Message, StageEnd>
-    requires some { 1 ≤ length inputs.old }
-    requires few { length inputs.old ≤ MAX_LANES }
+    held: &mut [Held],
+) -> Result<(), StageEnd>
     requires states { length inputs.old ≤ length states.old }
-    requires all_open { AreOpen states.old }
-    requires no_row { AwaitsNoRow place }
+    requires held { length inputs.old ≡ length held.old }
     ensures inputs { AreSameInputs inputs.old inputs.new }
-    ensures taken { HasTakenNext (length inputs.old) place result states.new (at_lane received inputs.old)
-        (at_lane received inputs.new) }
+    ensures filled { (place : PlaceValue) (passed : ℕ → List Message)
+        → AreHolding (length inputs.old) states.old passed (at_lane received inputs.old) held.old
+        → HasFilled (length inputs.old) place result states.new passed (at_lane received inputs.new) held.new }
+    ensures each { OnOk result (HoldEach (length inputs.old) held.new) }
+    ensures as_many { (length states.new ≡ length states.old) × (length held.new ≡ length held.old) }
 {
-    let first = receive_from(rt, inputs, states, 0)?;
-    if !place.accepts(&first) {
-        return Err(OUT_OF_ORDER);
+    for lane in 0..inputs.len() {
+        fill(rt, alloc, inputs, states, held, lane)?;
     }
-    let mut heights = [0; MAX_LANES];
-    heights[0] = height_of(&first);
-    for lane in 1..inputs.len() {
-        heights[lane] = receive_alike(rt, inputs, states, lane, &first)?;
-    }
-    agreed(first, &heights[..inputs.len()]).ok_or(OUT_OF_ORDER)
-}
-
-/// Receives the next message of a lane, and returns the height in it if it is like the first lane's message.
-fn receive_alike<R: Wait>(
-    rt: &R,
-    inputs: &mut [Receiver],
-    states: &mut [LaneState],
-    lane: usize,
-    first: &Message,
-) -> Result<u32, StageEnd>
-    requires lane { lane < length inputs.old }
-    requires states { length inputs.old ≤ length states.old }
-    ensures inputs { AreSameInputs inputs.old inputs.new }
-    ensures taken { HasTakenAlike lane first.now result states.old states.new (at_lane received inputs.old)
-        (at_lane received inputs.new) }
-{
-    let message = receive_from(rt, inputs, states, lane)?;
-    if !are_alike(first, &message) {
-        return Err(OUT_OF_ORDER);
-    }
-    Ok(height_of(&message))
+    Ok(())
 }
