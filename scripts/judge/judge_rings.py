@@ -169,18 +169,25 @@ class Over(Exception):
 
 
 def want_of_gather(lanes, room, gone):
-    """How the gathering ends, and what it sends; each lane is drained."""
-    sent = []
+    """How the gathering ends, and what it sends; each lane is drained. Rows that came together in a lane may go on
+    together, with those of other lanes, their head and their end."""
+    given, sent = [one_by_one(lane) for lane in lanes], []
+    handed = [it for lane in lanes for it in lane]
     try:
-        gather([list(lane) for lane in lanes], sent)
+        gather([list(lane) for lane in given], sent)
     except Over as over:
         end = str(over)
     # the lanes are drained through their ends, but at the end of the stream
-    if end != "Well" and not all(any(it in ENDS for it in one_by_one(lane)) for lane in lanes):
+    if end != "Well" and not all(any(it in ENDS for it in lane) for lane in given):
         end = "PeerGone"
-    if gone == "output":
-        return " PeerGone" if len(sent) > room else f" {end}"
-    return f" {end}{told_after('sent', sent)}"
+    if gone != "output":
+        return may_go_together(handed, f" {end}{told_after('sent', sent)}")
+    if len(sent) <= room:
+        return f" {end}"
+    # an image takes one place at least, and so does the end
+    least = sum(is_head(it) or it in ENDS for it in sent)
+    is_open = any(isinstance(it, Together) for it in handed) and least <= room
+    return OneOf((f" {end}", " PeerGone")) if is_open else " PeerGone"
 
 
 def gather(lanes, sent):
@@ -197,11 +204,6 @@ def gather(lanes, sent):
         message = lanes[lane].pop(0) if lanes[lane] else None
         if message is None:
             send("Stop", "PeerGone")
-        # several together are a message out of place, and one row is one by itself
-        if isinstance(message, Together):
-            if len(message) > 1:
-                send("Stop", "Fault(OutOfOrder)")
-            [message] = message
         if message == "Stop":
             send("Stop", "Broken")
         return message

@@ -165,12 +165,33 @@ module _ {lanes : ℕ} {place : Place} {states : List LaneState} {start now new 
 
 -- ---- lanes of which nothing was taken
 
-pub first_open : (n : ℕ) (states : List LaneState) → AllByRecursion (λ s. s ≡ Open) states → AllByRecursion (λ s. s ≡ Open) (take n states)
-first_open zero states all = tt
-first_open (suc n) [] all = tt
-first_open (suc n) (s ∷ states) all = (all.0, first_open n states all.1)
+pub first_of_all : {A : Type 0} (P : A → Type 0) (n : ℕ) (l : List A) → AllByRecursion P l → AllByRecursion P (take n l)
+first_of_all P zero l all = tt
+first_of_all P (suc n) [] all = tt
+first_of_all P (suc n) (x ∷ l) all = (all.0, first_of_all P n l all.1)
 
-pub open_at : (states : List LaneState) → AllByRecursion (λ s. s ≡ Open) states → (lane : ℕ) → state_at states lane ≡ Open
+open_at : (states : List LaneState) → AllByRecursion (λ s. s ≡ Open) states → (lane : ℕ) → state_at states lane ≡ Open
 open_at [] all lane = refl
 open_at (s ∷ states) all zero = all.0
 open_at (s ∷ states) all (suc lane) = open_at states all.1 lane
+
+nothing_at : (held : List Held) → AllByRecursion (λ h. in_held h ≡ []) held → (lane : ℕ) → at_lane in_held held lane ≡ []
+nothing_at [] all lane = refl
+nothing_at (h ∷ held) all zero = all.0
+nothing_at (h ∷ held) all (suc lane) = nothing_at held all.1 lane
+
+pub nothing_gathered : (lanes : ℕ) (place : Place) (states : List LaneState) (start : ℕ → List Message) (held : List Held) (sent : List Message)
+    → place ≡ Between → AllByRecursion (λ s. s ≡ Open) states → AllByRecursion (λ h. in_held h ≡ []) held
+    → IsGathering lanes place states start start held sent sent
+nothing_gathered lanes place states start held sent at_start opens none = record {
+  passed = start;
+  going = nothing_yet lanes place start sent at_start;
+  holding = record {
+    parts = record {
+      added = λ lane below. sym (ap (λ (l : List Message). start lane ++ l) (nothing_at held none lane) ∙ append-nil (start lane));
+      left = λ lane below. subst (λ (s : LaneState). IsLeftBy s (at_lane in_held held lane)) (sym (open_at states opens lane))
+          (subst (IsLeftBy Open) (sym (nothing_at held none lane)) (tt, refl));
+    };
+    stream = λ lane below. subst (AllByRecursion IsOfStream) (sym (nothing_at held none lane)) tt;
+  };
+}

@@ -27,9 +27,14 @@ pub fn dealt(
 }
 
 /// Gathers from the inputs. There have to be 1 to 8.
-pub fn gathered(rt: &(impl Wait + Abort), inputs: Vec<Receiver>, output: Sender) -> GatherDone {
+pub fn gathered(
+    rt: &(impl Wait + Abort),
+    alloc: Global,
+    inputs: Vec<Receiver>,
+    output: Sender,
+) -> GatherDone {
     assert!(rt; 1 <= inputs.len() && inputs.len() <= 8);
-    gather(rt, inputs, output)
+    gather(rt, alloc, inputs, output)
 }
 
 /// Makes `count` rings of this capacity. Returns `None` if there is no memory.
@@ -184,7 +189,7 @@ fn gathers_again<R: Threads + Wait + Abort + Sync>(
         move || {
             thread::join(
                 rt,
-                move || gathered(rt, inputs, output).end == StageEnd::Well,
+                move || gathered(rt, alloc, inputs, output).end == StageEnd::Well,
                 move || passes_image(alloc, &mut producer, &mut consumer, height),
             )
         },

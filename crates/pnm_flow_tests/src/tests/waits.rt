@@ -126,7 +126,7 @@ fn drains_shortly<R: Threads + Wait + Clock + Abort + Sync>(rt: &R, alloc: Globa
     let start = Instant::now(rt).expect(rt, "a clock");
     let both = thread::join(
         rt,
-        move || gathered(rt, inputs, output).end == StageEnd::Broken,
+        move || gathered(rt, alloc, inputs, output).end == StageEnd::Broken,
         move || send_from_last(rt, alloc, lanes),
     );
     is_so(rt, both.0 && both.1, &"gathered");
