@@ -40,7 +40,7 @@ impl From<Message> for Packet {
 }
 
 impl Packet {
-    ghost use Rattle.std.specs.Prelude.{◌≡◌, ◌≤◌, ◌↔◌, [], ◌∷◌, ◌++◌, IfOk, IfErr, IsTrue, length};
+    ghost use Rattle.std.specs.Prelude.{◌≡◌, ◌≤◌, ◌↔◌, ◌++◌, IfOk, IsTrue, length};
     ghost use Rattle.pnm_image.specs.Packets.{messages_in, packet_list};
     ghost use Rattle.pnm_image.specs.Rows.{row_messages};
 
@@ -52,36 +52,6 @@ impl Packet {
         // No effect at run time: from this, a proof learns that there is a row.
         let _ = rows.are_several();
         Packet::Part(Part::new(None, Some(rows), false))
-    }
-
-    /// The message that the packet stands for, without a copy. That can be a single row, too.
-    ///
-    /// # Errors
-    ///
-    /// The part of an image, if it stands for several messages.
-    #[inline(always)]
-    pub fn into_message(self) -> Result<Message, Part>
-        ensures one { IfOk result (λ message. messages_in self ≡ message ∷ []) }
-        ensures several { IfErr result (λ part. (self ≡ Packet.Part part) × (2 ≤ length part)) }
-    {
-        let is_several = self.is_several();
-        let part = match self {
-            Packet::Part(part) if is_several => return Err(part),
-            Packet::Part(part) => part,
-            Packet::StreamEnd => return Ok(Message::StreamEnd),
-            Packet::Stop => return Ok(Message::Stop),
-        };
-        let (head, rows, _) = part.into_parts();
-        if let Some(head) = head {
-            return Ok(Message::Begin(head));
-        }
-        let Some(rows) = rows else {
-            return Ok(Message::ImageEnd);
-        };
-        match rows.into_one() {
-            Ok(row) => Ok(Message::Row(row)),
-            Err(_) => unreachable!(),
-        }
     }
 
     /// Whether the packet stands for several messages. From this, a proof learns that it stands for one at least.

@@ -1,12 +1,11 @@
 //! Rows that repeat, held once.
 
-ghost use Rattle.std.specs.Prelude.{◌≡◌, ◌≤◌, ◌↔◌, [], ◌∷◌, ◌++◌, IsTrue, IfOk, IfErr, length};
+ghost use Rattle.std.specs.Prelude.{◌≡◌, ◌≤◌, ◌↔◌, ◌++◌, IsTrue, IfOk, length};
 ghost use Rattle.pnm_image.specs.Repeats.{repeated};
 ghost use Rattle.pnm_image.specs.Rows.{rows_list};
 
 use crate::copies::{count_together, repeat_rows};
 use crate::rows::Rows;
-use pnm_samples::Samples;
 use std::alloc::{AllocError, Global};
 use std::marker::Model;
 
@@ -63,23 +62,6 @@ impl RepeatedRows {
     {
         let count = self.rows.count();
         self.times > 1 || count > 1
-    }
-
-    /// The row, if there is only one, and it comes once.
-    ///
-    /// # Errors
-    ///
-    /// The same, if there are several.
-    #[inline(always)]
-    pub fn into_one(self) -> Result<Samples, RepeatedRows>
-        ensures one { IfOk result (λ row. self ≡ row ∷ []) }
-        ensures several { IfErr result (λ same. (same ≡ self) × (2 ≤ length self)) }
-    {
-        if self.are_several() {
-            Err(self)
-        } else {
-            Ok(self.rows.into_first())
-        }
     }
 
     /// All rows one after another, a copy of the group for each time that it comes. Rows that come once are as they are

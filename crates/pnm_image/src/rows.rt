@@ -1,7 +1,7 @@
 //! Several rows of an image in one.
 
 ghost use Rattle.std.specs.Prelude.{◌≡◌, ℕ, ◌≤◌, ◌<◌, ◌+◌, ◌-◌, ◌*◌, ◌↔◌, All, IsTrue, IfOk, length, take, drop, ◌++◌, ◌∷◌};
-ghost use Rattle.std.specs.Prelude.{[], IfErr, IsFalse, OnErr, get_or};
+ghost use Rattle.std.specs.Prelude.{[], IsFalse, OnErr, get_or};
 ghost use Rattle.pnm_samples.specs.Cuts.{cut_rows};
 ghost use Rattle.pnm_samples.specs.SampleVecs.{HasWhiteSpare, samples_of, slice_samples};
 ghost use Rattle.pnm_image.specs.HeldRows.{AreRows, AreRowsWithin, AreSliceRows, HasAdded, HoldsSame, row_lists};
@@ -179,23 +179,6 @@ impl Rows {
             SampleVec::Words(words) => RowVec::Words(words),
         };
         Rows::new(held, bound, 1, row_length)
-    }
-
-    /// The row, if there is only one.
-    ///
-    /// # Errors
-    ///
-    /// The rows themselves, if there are several.
-    #[inline(always)]
-    pub(crate) fn into_one(self) -> Result<Samples, Rows>
-        ensures one { IfOk result (λ row. self ≡ row ∷ []) }
-        ensures several { IfErr result (λ same. (same ≡ self) × (2 ≤ length self)) }
-    {
-        if self.count() == 1 {
-            Ok(self.into_first())
-        } else {
-            Err(self)
-        }
     }
 
     /// The first row, without a copy.

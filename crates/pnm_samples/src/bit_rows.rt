@@ -163,15 +163,15 @@ impl BitRows {
         ensures same { IfOk result (λ done. IsFalse done → self.new ≡ self.old) }
         ensures failed { OnErr result (self.new ≡ self.old) }
     {
-        if each != self.each {
-            return Ok(false);
+        if each == self.each {
+            let Some(count) = self.count.checked_add(1) else {
+                return Err(AllocError);
+            };
+            self.bytes.extend_from_slice(row)?;
+            self.count = count;
+            return Ok(true);
         }
-        let Some(count) = self.count.checked_add(1) else {
-            return Err(AllocError);
-        };
-        self.bytes.extend_from_slice(row)?;
-        self.count = count;
-        Ok(true)
+        Ok(false)
     }
 
     /// Exchanges black and white, in place.

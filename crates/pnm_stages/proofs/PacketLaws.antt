@@ -1,11 +1,11 @@
 -- The messages of packets.
-use Rattle.pnm_stages.proofs.Words.{IsTrue, IsFalse, ◌↔◌, ◌||◌, ◌≡◌, ◌≤◌, ◌⊎◌, inl, inr, subst, ℕ, nat_lt, length, arith, Option, Some, None, List, [], ◌∷◌}
-use Rattle.pnm_stages.proofs.Words.{◌++◌, refl, sym, ap, ◌∙◌, append-nil, append_assoc, AllByRecursion, flat_map-append, common_steps, nat_tests, flat_map-cons}
-use Rattle.pnm_stages.proofs.Words.{list_any-append, or-false, Message, Begin, More, Whole, BrokenOff, Ending, IsMessage, EndsBy, HeadValue, row_messages}
-use Rattle.pnm_stages.proofs.Words.{rows_list, end_messages, rest_messages, part_messages, ends_after, Packet, Part, both_all, Extends, IsEnded, messages_in}
-use Rattle.pnm_stages.proofs.Words.{ending_of_packet, is_together}
+use Rattle.pnm_stages.proofs.Words.{IsFalse, ◌≡◌, ◌⊎◌, inl, inr, subst, ℕ, nat_lt, length, arith, Option, Some, None, List, [], ◌∷◌}
+use Rattle.pnm_stages.proofs.Words.{◌++◌, refl, sym, ap, ◌∙◌, append-nil, append_assoc, AllByRecursion, flat_map-append, flat_map-cons}
+use Rattle.pnm_stages.proofs.Words.{Message, Begin, More, Whole, BrokenOff, Ending, IsMessage, EndsBy, HeadValue, row_messages}
+use Rattle.pnm_stages.proofs.Words.{rows_list, end_messages, rest_messages, part_messages, ends_after, Packet, both_all, Extends, IsEnded, messages_in}
+use Rattle.pnm_stages.proofs.Words.{ending_of_packet}
 use Rattle.std.specs.Prelude.{Bool, true, false}
-use Rattle.pnm_stages.specs.RingPackets.{messages_of, has_together}
+use Rattle.pnm_stages.specs.RingPackets.{messages_of}
 use Rattle.pnm_stages.proofs.RingSteps.{ends_nothing}
 
 -- no packets
@@ -64,10 +64,6 @@ pub part_ends_nothing : (head : Option HeadValue) (rows : Option (List (List ℕ
 part_ends_nothing None rows ends = rest_ends_nothing rows ends
 part_ends_nothing (Some head) rows ends = ends_after More (Begin head ∷ []) (rest_messages rows ends) (refl, tt) (rest_ends_nothing rows ends)
 
--- whether a part is several messages, as a function answers it
-pub several_by : (packet : Packet) (several : Bool) → IsTrue several ↔ 2 ≤ length (messages_in packet) → several ≡ is_together packet
-several_by packet several answer = grind (arith, common_steps, nat_tests, answer)
-
 -- a packet that ends so ends a list so
 pub ends_with_packet : (l : List Message) (packet : Packet) → EndsBy (ending_of_packet packet) (messages_in packet) → EndsBy More l
     → EndsBy (ending_of_packet packet) (l ++ messages_in packet)
@@ -111,17 +107,3 @@ packet_says_end packet says (inr broken) = inr (sym says ∙ broken)
 pub known_by : {packet : Packet} {packets others : List Packet} → packets ≡ packet ∷ others → messages_of packets ≡ messages_in packet ++ messages_of others
 unfolding messages_of
 known_by {packet = packet} {others = others} same = ap messages_of same ∙ flat_map-cons messages_in packet others
-
--- ---- messages that were sent together
-
--- none are among no packets
-pub none_together : has_together [] ≡ false
-unfolding has_together
-none_together = refl
-
--- one packet more
-pub together_with : (packets : List Packet) (packet : Packet)
-    → has_together (packets ++ packet ∷ []) ≡ (has_together packets || is_together packet)
-unfolding has_together
-together_with packets packet = list_any-append is_together packets (packet ∷ [])
-    ∙ ap (λ (b : Bool). has_together packets || b) (or-false (is_together packet))

@@ -21,7 +21,7 @@ pub use Rattle.pnm_image.specs.declared.place.Place.TheVariants.{After, Between,
 pub use Rattle.pnm_image.specs.declared.shape.Shape.{Shape}
 pub use Rattle.pnm_stages.specs.Internal.StageParts.{HasAnsweredPart, HasBrokenOffAfter, HasPassed, HasSentAnswers}
 pub use Rattle.pnm_stages.specs.Prefixes.{IsLongestLawfulPrefix, IsPrefixOfDue}
-pub use Rattle.pnm_stages.specs.RingPackets.{BeginsByNoMessage, has_together, is_together, messages_of}
+pub use Rattle.pnm_stages.specs.RingPackets.{messages_of}
 pub use Rattle.pnm_stages.specs.Rings.{EndsAtMostOnce, Extends, HasDrainedAfter, IsEnded, IsPair, SameReceiver, SameSender, known_packets, received, sent}
 pub use Rattle.pnm_stages.specs.Stages.{HasEndedSo, HasRunStage}
 pub use Rattle.pnm_stages.specs.declared.receiver.Receiver.{Receiver}
@@ -45,12 +45,10 @@ pub use Rattle.pnm_tools.specs.declared.tool.Tool.{Tool}
 pub use Rattle.rtrb.specs.Ring.{known_items}
 pub use Rattle.std.proofs.Common.{Bool, List, None, Option, Some, [], ap, append-nil, append_assoc, arith, false, inl, inr, length, nat_lt, refl, rules, subst}
 pub use Rattle.std.proofs.Common.{sym, true, ℕ, ◌++◌, ◌∙◌, ◌∷◌, ◌≡◌, ◌≤◌, ◌⊎◌}
-pub use Rattle.std.proofs.Math.Bool.{or-false}
 pub use Rattle.std.proofs.lemmas.Bool.{cases_lt, false≢true, true≢false}
 pub use Rattle.std.proofs.lemmas.Bool.Decides.{nat_tests}
 pub use Rattle.std.proofs.lemmas.Grind.{common_steps, flat_map-append}
 pub use Rattle.std.proofs.lemmas.List.Concat.{flat_map-cons}
 pub use Rattle.std.proofs.lemmas.List.Elements.{All-from_recursion, recursion_from_All}
-pub use Rattle.std.proofs.lemmas.List.Folds.{list_any-append}
 pub use Rattle.std.specs.List.{AllByRecursion}
 pub use Rattle.std.specs.Prelude.{IsFalse, IsTrue, ◌||◌, ◌↔◌}

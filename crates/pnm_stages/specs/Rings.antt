@@ -11,7 +11,7 @@ use Rattle.rtrb.specs.Ring.{SameConsumer as IsSameReceivingEnd}
 use Rattle.pnm_image.specs.declared.packet.Packet.{Packet}
 use Rattle.pnm_stages.specs.declared.sender.Sender.{Sender}
 use Rattle.pnm_stages.specs.declared.receiver.Receiver.{Receiver}
-use Rattle.pnm_stages.specs.RingPackets.{messages_of, has_together}
+use Rattle.pnm_stages.specs.RingPackets.{messages_of}
 
 -- ---- the two ends of a ring
 
@@ -35,10 +35,6 @@ known_packets r = known_items_on r.ring
 
 abbrev pub known_items : Receiver → List Message
 known_items r = messages_of (known_packets r)
-
--- whether messages that were sent together were received by this end
-abbrev pub has_received_rows : Receiver → Bool
-has_received_rows r = has_together (received_on r.ring)
 
 -- the two ends of one ring
 abbrev pub IsPair : Sender → Receiver → Type 0

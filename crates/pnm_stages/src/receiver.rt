@@ -1,16 +1,14 @@
 //! The receiving end of a ring of messages.
 
-ghost use Rattle.std.specs.Prelude.{◌≡◌, ◌<◌, length};
+ghost use Rattle.std.specs.Prelude.{◌<◌, length};
 ghost use Rattle.std.specs.List.{AllByRecursion};
-ghost use Rattle.rtrb.specs.Ring.{received as received_on};
 ghost use Rattle.pnm_image.specs.Messages.{IsMessage, EndsBy};
 ghost use Rattle.pnm_image.specs.Packets.{messages_in, ending_of_packet};
-ghost use Rattle.pnm_stages.specs.RingPackets.{is_together, has_together};
 
 use crate::ring::AnyMessage;
 use crate::sender::Sender;
 use crate::wakers::ReceiverWaker;
-use pnm_image::{Ending, Message, Packet};
+use pnm_image::{Ending, Packet};
 use rtrb::Consumer;
 use std::alloc::Global;
 use std::sync::Wait;
@@ -25,32 +23,25 @@ pub struct Receiver {
     /// Half the number of packets that the last look saw in the ring. It is narrow, since many ends lie on the stack of
     /// a thread that starts others.
     half: u32,
-    /// Whether this end has received several messages that were sent together.
-    has_rows: bool,
-    ghost rows: { has_rows ≡ has_together (received_on ring) },
 }
 
 impl Receiver {
     ghost use Rattle.std.specs.Prelude.{◌≡◌, ◌<◌, List, [], ◌∷◌, ◌++◌, length, IfSome, IfNone, IsTrue, IsFalse};
     ghost use Rattle.std.specs.List.{AllByRecursion};
-    ghost use Rattle.rtrb.specs.Ring.{received as received_on};
     ghost use Rattle.pnm_image.specs.Messages.{IsMessage, EndsBy};
     ghost use Rattle.pnm_image.specs.Packets.{messages_in, ending_of_packet};
     ghost use Rattle.pnm_image.specs.declared.packet.Packet.{Packet as PacketValue};
-    ghost use Rattle.pnm_stages.specs.RingPackets.{BeginsByNoMessage};
     ghost use Rattle.pnm_stages.specs.Rings.{sent, received, known_items, IsPair, SameSender, SameReceiver, HasDrained};
-    ghost use Rattle.pnm_stages.specs.Rings.{known_packets, has_received_rows, HasDrainedAfter};
+    ghost use Rattle.pnm_stages.specs.Rings.{known_packets, HasDrainedAfter};
 
     /// The receiving end over `ring`, with its part of the ring's wakers.
     pub(crate) fn new(ring: Consumer<Packet, Global, AnyMessage>, waker: ReceiverWaker) -> Receiver
-        requires { received_on ring ≡ [] }
         ensures { result.ring ≡ ring }
     {
         Receiver {
             ring,
             waker,
             half: 0,
-            has_rows: false,
         }
     }
 
@@ -97,7 +88,7 @@ impl Receiver {
     {
         let packet = self.ring.peek_known();
         // No effect at run time: from this, a proof learns how the packet's messages end.
-        let _ = recognise(packet);
+        recognise(packet);
         packet
     }
 
@@ -127,16 +118,8 @@ impl Receiver {
         if left == 0 || left == self.half as usize {
             self.waker.wake_sender();
         }
-        let is_together = recognise(&packet);
-        self.has_rows = self.has_rows || is_together;
+        recognise(&packet);
         packet
-    }
-
-    /// Whether this end has received several messages that were sent together.
-    pub fn has_received_rows(&self) -> bool
-        ensures { result ≡ has_received_rows self.now }
-    {
-        self.has_rows
     }
 
     /// Looks into the ring with both of its ends at hand. Afterwards, what was received and what is known to be left
@@ -165,27 +148,6 @@ impl Receiver {
             return Some(self.receive_known());
         }
         None
-    }
-
-    /// Receives the next message, once there is one. Returns `None` if several that were sent together come
-    /// next, which stay in the ring, and once the ring is empty and its other end was seen dropped.
-    pub fn receive_message<R: Wait>(&mut self, rt: &R) -> Option<Message>
-        ensures ring { SameReceiver self.old self.new }
-        ensures taken { IfSome result (λ m. received self.new ≡ received self.old ++ m ∷ []) }
-        ensures message { IfSome result IsMessage }
-        ensures none { IfNone result
-            ((received self.new ≡ received self.old) × BeginsByNoMessage (known_packets self.new)) }
-    {
-        if !self.has_message() && !self.wait_for_message(rt) {
-            return None;
-        }
-        if recognise(self.peek_known()) {
-            return None;
-        }
-        match self.receive_known().into_message() {
-            Ok(message) => Some(message),
-            Err(_) => unreachable!(),
-        }
     }
 
     /// Waits until a message is there. Returns false once the ring is empty and its other end was seen dropped. It is a
@@ -249,20 +211,19 @@ impl Receiver {
     }
 }
 
-/// Whether a packet is several messages that were sent together. A proof learns that it is a message at least, that the
-/// head of an image keeps the rules of heads, and that only the last message may end the stream.
-fn recognise(packet: &Packet) -> bool
-    ensures together { result ≡ is_together packet.now }
+/// No effect at run time: from this, a proof learns that the packet is a message at least, that the head of an image
+/// keeps the rules of heads, and that only the last message may end the stream.
+#[inline(always)]
+fn recognise(packet: &Packet)
     ensures some { 0 < length (messages_in packet.now) }
     ensures messages { AllByRecursion IsMessage (messages_in packet.now) }
     ensures ends { EndsBy (ending_of_packet packet.now) (messages_in packet.now) }
 {
     let Packet::Part(part) = packet else {
-        return false;
+        return;
     };
-    if let Some(head) = part.parts().0 {
-        let _ = head.shape();
-        return packet.is_several();
-    }
-    packet.is_several()
+    let Some(head) = part.parts().0 else {
+        return;
+    };
+    let _ = head.shape();
 }

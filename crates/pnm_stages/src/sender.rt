@@ -6,7 +6,7 @@ ghost use Rattle.pnm_stages.specs.Rings.{sent, known_free, kept_free, SameSender
 
 use crate::ring::AnyMessage;
 use crate::wakers::SenderWaker;
-use pnm_image::{Packet, RowSlice, Rows};
+use pnm_image::Packet;
 use rtrb::Producer;
 use std::alloc::Global;
 use std::sync::Wait;
@@ -203,19 +203,10 @@ fn bytes_of(packet: &Packet) -> Option<usize> {
         return Some(0);
     };
     let (held, times) = rows.parts();
-    let bytes = rows_bytes(held);
+    let bytes = held.as_slice().bytes();
     let are_together = held.count() > 1 || head.is_some() && ends_image;
     let are_few = times == 1 && are_together && bytes <= FEW_TOGETHER;
     Some(if are_few { 0 } else { bytes })
-}
-
-/// The bytes in which rows are held.
-fn rows_bytes(rows: &Rows) -> usize {
-    match rows.as_slice() {
-        RowSlice::Bits(bits) => bits.parts().0.len(),
-        RowSlice::Bytes(bytes) => bytes.len(),
-        RowSlice::Words(words) => words.len().saturating_mul(2),
-    }
 }
 
 /// How many of a ring's `capacity` places stay free next to rows of `bytes` bytes.

@@ -4,7 +4,7 @@
 use super::is_so;
 use pnm_flow::{Packet, Receiver, Sender, StageEnd, new_ring};
 use pnm_image::Kind;
-use pnm_test_support::{Part, are_made_of, is_made_of, message, packets_of};
+use pnm_test_support::{Part, are_made_of, message, packets_of};
 use std::alloc::Global;
 use std::process::Abort;
 use std::thread;
@@ -41,10 +41,7 @@ pub fn send_all(alloc: Global, output: &mut Sender, parts: &[Part<'_>]) -> bool 
 
 /// Whether the packet is a message that is made of this. Messages that came together are none.
 pub fn is_one_of(packet: Packet, part: Part<'_>) -> bool {
-    match packet.into_message() {
-        Ok(message) => is_made_of(&message, part),
-        Err(_) => false,
-    }
+    are_made_of(&packet, &[part], &mut 0)
 }
 
 /// Receives what comes next, if anything does. Returns whether it is made of the parts from this one on, and passes

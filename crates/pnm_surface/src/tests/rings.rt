@@ -2,7 +2,7 @@
 
 use super::is_so;
 use pnm_flow::{AnyMessage, Message, Packet, Receiver, Sender, new_ring};
-use pnm_test_support::{Part, is_made_of, message};
+use pnm_test_support::{Part, are_made_of, message};
 use std::alloc::Global;
 use std::process::Abort;
 
@@ -35,10 +35,7 @@ fn receives(receiver: &mut Receiver, part: Part<'_>) -> bool {
     if !receiver.has_message() {
         return false;
     }
-    match receiver.receive_known().into_message() {
-        Ok(message) => is_made_of(&message, part),
-        Err(_) => false,
-    }
+    are_made_of(&receiver.receive_known(), &[part], &mut 0)
 }
 
 /// The ring holds these, and nothing more.

@@ -3,7 +3,7 @@
 use super::{is_so, new_head, same};
 use pnm_filters::{RowState, RowWise, StartTool, ToolState};
 use pnm_image::{Kind, Packet, Shape};
-use pnm_test_support::{Part, is_made_of, message};
+use pnm_test_support::{Part, are_made_of, message};
 use pnm_tools::{CutBox, Filter, FlipWay, Tool, ToolFault};
 use std::alloc::Global;
 use std::process::Abort;
@@ -98,10 +98,7 @@ fn feed<F: Filter>(
 /// The filter gives this next, or nothing more.
 fn gives<F: Filter>(rt: &impl Abort, filter: &mut F, part: Option<Part<'_>>) {
     let is_given = match (filter.next(), part) {
-        (Ok(Some(packet)), Some(part)) => match packet.into_message() {
-            Ok(message) => is_made_of(&message, part),
-            Err(_) => false,
-        },
+        (Ok(Some(packet)), Some(part)) => are_made_of(&packet, &[part], &mut 0),
         (Ok(None), None) => true,
         _ => false,
     };

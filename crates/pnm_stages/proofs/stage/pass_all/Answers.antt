@@ -1,4 +1,4 @@
-use Rattle.pnm_stages.proofs.Words.{refl, sym, ◌∙◌, sent, received, More, ending_of_packet, messages_in}
+use Rattle.pnm_stages.proofs.Words.{refl, sym, ◌∙◌, sent, received, messages_in}
 use Rattle.pnm_stages.specs.Rings.{known_items}
 use Rattle.pnm_stages.proofs.RingSteps.{arrived, same_input, same_output, itself_input, itself_output}
 use Rattle.pnm_stages.proofs.StagedSteps.{passes_nothing, passes_packet, still_sent, still_going, input_gone, output_gone, breaks_off, ends_well, ends_broken}

@@ -3,8 +3,8 @@ use Rattle.pnm_samples.proofs.BitRowLaws.{one_is_packed, packed_behind}
 use Rattle.pnm_samples.proofs.PixelRowsLaws.{rows_behind}
 use Rattle.pnm_samples.proofs.bit_rows.BitRows.append_row.Goals as goal
 
-pub invariant_of-self-2 : goal.invariant_of-self-2
-invariant_of-self-2 c =
+pub invariant_of-self-then-each-self : goal.invariant_of-self-then-each-self
+invariant_of-self-then-each-self c =
     let x = c.self.inside in
     let row = c.args.row.now in
     let alike : c.args.each ≡ x.each = omega arith in
@@ -14,8 +14,8 @@ invariant_of-self-2 c =
     (packed_behind x.count 1 x.each x.bytes.items row c.self.invariant
     (one_is_packed x.each row (subst (λ (k : ℕ). ArePacked k row) alike c.requires))))
 
-pub returns-clause-added : goal.returns-clause-added
-returns-clause-added c _ =
+pub returns-then-each-self-clause-added : goal.returns-then-each-self-clause-added
+returns-then-each-self-clause-added c _ =
     let x = c.self.inside in
     let row = c.args.row.now in
     let alike : c.args.each ≡ x.each = omega arith in
