@@ -1,5 +1,8 @@
 /* The threads of a row-wise tool over LANES lanes: dealing.rt, a lane by stage.rt, and gathering.rt, next.rt,
- * lane.rt, drain.rt.
+ * together.rt, held.rt, lane.rt, drain.rt.
+ *
+ * BLOCKS: LANES + 1 rows may come together, of which the first lane gets two and each other one; and the last row
+ * of an image may come with its end. What is put together of these leaves as one message.
  *
  * The includer defines INPUT (the ring to the dealer), TO(lane), FROM(lane), LAST (the ring behind the
  * gatherer), and MOST_ROWS, the greatest height of an image, up to 6, or, with ONE_HEIGHT, that of each, up to
@@ -24,6 +27,10 @@
 inline say(m) {
     if
     :: inside && said < rows -> m = A_ROW; said++
+#ifdef BLOCKS
+    :: inside && said + LANES < rows -> m = BLOCK; said = said + LANES + 1
+    :: inside && said + 1 == rows -> m = LAST_ROW; inside = 0; rows = 0; said = 0
+#endif
     :: inside && said == rows -> m = IEND; inside = 0; rows = 0; said = 0
     :: !inside && images < MOST_IMAGES ->
         atomic {
@@ -79,25 +86,28 @@ inline wake_before_room(lane) {
     fi
 }
 
-/* send_each: past a lane whose ring's other end is gone */
-inline send_each(m, went) {
-    lane = 0;
+/* send_part, send_end: the first lane from y on gets `first`, the others `rest`; past a lane whose ring's other end is
+ * gone */
+#define LANE ((y + turn) % LANES)
+inline send_parts(first, rest, went) {
+    turn = 0;
     went = 1;
     do
-    :: lane == LANES -> break
+    :: turn == LANES -> break
     :: else ->
-        STEP { wake_before_room(lane) };
-        send(TO(lane), m, 1, ok);
-        lane++;
+        STEP { wake_before_room(LANE) };
+        if :: turn == 0 -> part = first :: else -> part = rest fi;
+        send(TO(LANE), part, 1, ok);
+        turn++;
         if :: ok :: else -> went = 0 fi
     od;
-    lane = 0
+    turn = 0; part = 0
 }
 
 proctype Dealer() {
     LOCALS
     bit ok, went;
-    byte m, y, lane;
+    byte m, y, turn, part;
 #ifdef BARE
     SOURCE_LOCALS
 #endif
@@ -117,9 +127,17 @@ next:
         STEP { wake_before_room(y) };
         send(TO(y), m, 1, went);
         y = (y + 1) % LANES
-    :: m != A_ROW ->
+#ifdef BLOCKS
+    :: m == BLOCK -> /* LANES + 1 rows: two for the first lane */
+        send_parts(BLOCK, ROW, went);
+        y = (y + 1) % LANES
+    :: m == LAST_ROW -> /* a row with the image's end, which each lane gets */
+        send_parts(LAST_ROW, IEND, went);
+        y = 0
+#endif
+    :: m != A_ROW && m != BLOCK && m != LAST_ROW ->
         y = 0;
-        send_each(m, went)
+        send_parts(m, m, went)
 #ifndef NO_FAULTS
     :: !ENDS(m) -> goto break_off
 #endif
@@ -131,7 +149,7 @@ next:
     fi;
 break_off:
 #ifndef M_NO_STOP_TO_LANES
-    send_each(STOP, went);
+    send_parts(STOP, STOP, went);
 #endif
 #if !defined(BARE) && !defined(M_NO_DRAIN_BY_DEALER)
     drain_after(INPUT, m, ok);
@@ -183,22 +201,46 @@ done:
     skip
 }
 
-/* ---- gathering.rt, next.rt, lane.rt ------------------------------------------------------------------------------ */
+/* ---- gathering.rt, next.rt, together.rt, held.rt, lane.rt --------------------------------------------------------- */
 
 #define OPEN  0
 #define ENDED 1
 #define GONE  2
 
-/* receive_from; `ok` where there is a message that isn't Stop */
-inline receive_from(lane, m) {
-    await_message(FROM(lane), ok);
+/* what is held of a lane: rows, and a message behind them */
+#define HOLDS_NOTHING(lane) (rows[lane] == 0 && then[lane] == 0)
+
+/* fill: receives from a lane of which nothing is held; `ok` where something that isn't Stop is */
+inline fill(lane) {
     if
-    :: ok ->
-        take(FROM(lane), m);
-        if :: ENDS(m) -> state[lane] = ENDED :: else fi;
-        ok = (m != STOP)
+    :: HOLDS_NOTHING(lane) ->
+        await_message(FROM(lane), ok);
+        if
+        :: ok ->
+            take(FROM(lane), m);
+            if :: ENDS(m) -> state[lane] = ENDED :: else fi;
+            ok = (m != STOP);
+            if
+            :: m == A_ROW || m == ROW -> rows[lane] = 1
+            :: m == BLOCK -> rows[lane] = 2
+            :: m == LAST_ROW -> rows[lane] = 1; then[lane] = IEND
+            :: else -> then[lane] = m
+            fi;
+            m = 0
+        :: else
+        fi
     :: else
     fi
+}
+
+/* fill_each */
+inline fill_each() {
+    lane = 0;
+    do
+    :: !ok || lane == LANES -> break
+    :: else -> fill(lane); lane++
+    od;
+    lane = 0
 }
 
 /* ---- drain.rt ---------------------------------------------------------------------------------------------------- */
@@ -232,9 +274,11 @@ inline drain_lane(lane) {
 }
 
 #if LANES == 2
+#define clear_held() rows[0] = 0; rows[1] = 0; then[0] = 0; then[1] = 0
 #define ONE_IS_OPEN (state[0] == OPEN || state[1] == OPEN)
 #define FIRST_OPEN (state[0] == OPEN -> 0 : 1)
 #else
+#define clear_held() rows[0] = 0; rows[1] = 0; rows[2] = 0; then[0] = 0; then[1] = 0; then[2] = 0
 #define ONE_IS_OPEN (state[0] == OPEN || state[1] == OPEN || state[2] == OPEN)
 #define FIRST_OPEN (state[0] == OPEN -> 0 : (state[1] == OPEN -> 1 : 2))
 #endif
@@ -243,31 +287,46 @@ proctype Gatherer() {
     LOCALS
     bit ok, inside, moved;
     byte m, first, y, height, lane;
-    byte state[LANES];
+    byte state[LANES], rows[LANES], then[LANES];
 #ifdef DRAINS
     goto drain;
 #endif
-next:
+next: /* await_lanes, await_row */
+    ok = 1;
     if
-    :: inside && y < height -> /* receive_row */
-        receive_from(y % LANES, m);
-        first = m;
-        ok = (ok && m == A_ROW);
-        y++
-    :: else -> /* receive_of_each */
-        receive_from(0, first);
-        ok = (ok && (inside -> first == IEND : (first == SEND || IS_HEAD(first))));
-        lane = 1;
+    :: inside && y < height ->
+        fill(y % LANES);
+        if
+#ifdef M_AWAITS_EACH_LANE_AT_A_ROW
+        :: ok -> fill_each()
+#else
+        :: ok && (rows[y % LANES] > 1 || rows[y % LANES] == 1 && then[y % LANES] != 0) -> fill_each()
+#endif
+        :: else
+        fi
+    :: else -> fill_each()
+    fi;
+    if :: !ok -> goto break_off :: else fi;
+    /* put_together */
+    if
+    :: inside && y < height -> /* take_rows */
+        ok = (rows[y % LANES] > 0);
+        first = ROW;
+        do
+        :: y < height && rows[y % LANES] > 0 ->
+            d_step { rows[y % LANES]--; y++ }
+        :: else -> break
+        od
+    :: else ->
+        first = then[0];
+        ok = (rows[0] == 0 && (inside -> first == IEND : (first == SEND || IS_HEAD(first))));
+        lane = 0;
         do
         :: !ok || lane == LANES -> break
-        :: else ->
-            receive_from(lane, m);
-            ok = (ok && m == first);
-            lane++
+        :: else -> ok = (rows[lane] == 0 && then[lane] == first); then[lane] = 0; lane++
         od;
         lane = 0
     fi;
-    m = 0;
     if :: !ok -> goto break_off :: else fi;
     if
     :: IS_HEAD(first) -> inside = 1; y = 0; height = HEIGHT(first)
@@ -288,7 +347,7 @@ break_off:
     send(LAST, STOP, 0, ok);
 #endif
 drain: /* drain_all */
-    atomic { ok = 0; inside = 0; first = 0; y = 0; height = 0; lane = 0 };
+    atomic { ok = 0; inside = 0; first = 0; y = 0; height = 0; lane = 0; clear_held() };
 #ifdef M_NO_DRAIN_BY_GATHERER
     goto done;
 #endif

@@ -24,6 +24,7 @@
 #define BLOCK 3 /* rows together: Packet::Rows of several */
 #define WIDE  4 /* a wide row, beside which places stay free */
 #define BEGIN 5 /* lanes.pml: BEGIN + h is the head of an image of h rows */
+#define LAST_ROW 13 /* lanes.pml, with BLOCKS: a row with the end of its image */
 #define SEND  14
 #define STOP  15
 #define ENDS(m) ((m) >= SEND)

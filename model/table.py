@@ -197,6 +197,17 @@ holds("lanes.pml", f"{CALLER_ALONE} HOLDS=0 MOST_ROWS=3 ONE_HEIGHT", f"{CALLED};
 edit("lanes.pml", f"{CALLER_ALONE} HOLDS=0 NO_FAULTS MOST_ROWS=3 ONE_HEIGHT M_NO_HOME_OF_THE_CALLER",
      "a gatherer that sleeps for want of room doesn't wake the caller at home",
      "threaded.rt, run: without output.set_home(..)")
+BLOCKS = "rows in blocks"
+for size, is_big in ("LANES=2 MOST_ROWS=4", False), ("LANES=3 MOST_ROWS=5", True):
+    holds("lanes.pml", f"{size} BARE CAP=1 COARSE BLOCKS {ALONE}", f"{LANES}; each a ring alone, {BLOCKS}", is_big=is_big)
+holds("lanes.pml", f"{BARE} MOST_ROWS=4 ONE_HEIGHT NO_FAULTS BLOCKS", f"{LANES}; {BLOCKS}", is_long=True)
+holds("lanes.pml", f"{CALLER_ALONE} HOLDS=0 NO_FAULTS MOST_ROWS=3 ONE_HEIGHT BLOCKS",
+      f"{CALLED}; each lane a ring alone, {BLOCKS}", is_big=True)
+SILENT = "CAP=1 COARSE HOLDS=0 NO_FAULTS AWAITS RINGS_ALONE"
+holds("lanes.pml", f"{SILENT} MOST_ROWS=3 ONE_HEIGHT", f"{LANES}; a source that waits for what is due")
+edit("lanes.pml", f"{SILENT} MOST_ROWS=3 ONE_HEIGHT M_AWAITS_EACH_LANE_AT_A_ROW",
+     "the gatherer awaits each lane though a row came alone",
+     "next.rt, await_row: fill_each(..) whatever are_rows_together() says")
 for size in ("MOST_ROWS=3 TAKER_GOES NO_FAULTS", "MOST_ROWS=1 TAKER_GOES"):
     holds("lanes.pml", f"{BARE} {size}", LANES, is_long=True)
 holds("lanes.pml", "CAP=1 COARSE HOLDS=0 MOST_ROWS=0 NO_FAULTS", f"{LANES}, between two threads", is_long=True)
