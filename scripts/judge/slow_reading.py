@@ -42,8 +42,8 @@ def needs(text):
 
 class Reading:
     """What a source answers that reads a text through a buffer of this size, a read giving some bytes at most and the
-    one with a number failing, 0 for none. Each message is told by itself, or what comes together between braces, but for
-    the rows of a plain image."""
+    one with a number failing, 0 for none. Each message is told by itself, or what comes together between braces, but
+    for the rows of a plain image."""
 
     def __init__(self, text, size, most, failing, is_apart):
         self.text, self.size, self.most, self.failing, self.is_apart = text, size, most, failing, is_apart

@@ -1,11 +1,13 @@
 -- How rows that come together are held.
 use Rattle.std.specs.Prelude.{◌≡◌, ℕ, ◌+◌, ◌*◌, ◌≤◌, List, ◌++◌, length, All}
+use Rattle.std.specs.List.{flat_map}
 use Rattle.pnm_image.specs.declared.rows.RowVec.{RowVec}
 use Rattle.pnm_image.specs.declared.rows.RowVec.TheVariants.{Bits, Bytes, Words}
 use Rattle.pnm_image.specs.declared.rows.RowSlice.{RowSlice}
 use Rattle.pnm_image.specs.declared.rows.RowSlice.TheVariants.{Bits as SliceBits, Bytes as SliceBytes}
 use Rattle.pnm_image.specs.declared.rows.RowSlice.TheVariants.{Words as SliceWords}
 use Rattle.pnm_samples.specs.Cuts.{cut_rows}
+use Rattle.pnm_samples.specs.Pixels.{packed_bytes}
 
 -- so many rows of so many samples
 abbrev pub row_lists : ℕ → ℕ → RowVec → List (List ℕ)
@@ -17,6 +19,12 @@ abbrev pub slice_lists : ℕ → ℕ → RowSlice → List (List ℕ)
 slice_lists count each (SliceBits rows) = rows.now
 slice_lists count each (SliceBytes bytes) = cut_rows count each bytes.now
 slice_lists count each (SliceWords words) = cut_rows count each words.now
+
+-- the bytes that they take
+abbrev pub slice_bytes : RowSlice → ℕ
+slice_bytes (SliceBits rows) = length (flat_map packed_bytes rows.now)
+slice_bytes (SliceBytes bytes) = length bytes.now
+slice_bytes (SliceWords words) = length words.now * 2
 
 -- there are so many rows of so many samples, and no sample more
 abbrev pub AreRows : ℕ → ℕ → RowVec → Type 0

@@ -18,17 +18,8 @@ pub(crate) fn count_together(rows: &Rows) -> u32
     ensures few { length rows.now * result < 2 ^ 32 }
 {
     let count = rows.count();
-    let bytes = bytes_of(rows.as_slice()).max(count as usize);
+    let bytes = rows.as_slice().bytes().max(count as usize);
     ((MOST_TOGETHER / bytes) as u32).max(1)
-}
-
-/// How many bytes the rows take.
-fn bytes_of(rows: RowSlice<'_>) -> usize {
-    match rows {
-        RowSlice::Bits(rows) => rows.parts().0.len(),
-        RowSlice::Bytes(bytes) => bytes.len(),
-        RowSlice::Words(words) => words.len().saturating_mul(2),
-    }
 }
 
 /// The rows, `times` times.

@@ -1,11 +1,11 @@
 //! Several rows of an image in one.
 
-ghost use Rattle.std.specs.Prelude.{◌≡◌, ℕ, ◌≤◌, ◌<◌, ◌+◌, ◌-◌, ◌*◌, ◌↔◌, All, IsTrue, IfOk, length, take, drop, ◌++◌, ◌∷◌};
-ghost use Rattle.std.specs.Prelude.{[], IsFalse, OnErr, get_or};
+ghost use Rattle.std.specs.Prelude.{◌≡◌, ℕ, ◌≤◌, ◌<◌, ◌+◌, ◌-◌, ◌*◌, ◌↔◌, All, IsTrue, IfOk, length, take, drop};
+ghost use Rattle.std.specs.Prelude.{◌++◌, ◌∷◌, [], IsFalse, OnErr, get_or};
 ghost use Rattle.pnm_samples.specs.Cuts.{cut_rows};
 ghost use Rattle.pnm_samples.specs.SampleVecs.{HasWhiteSpare, samples_of, slice_samples};
 ghost use Rattle.pnm_image.specs.HeldRows.{AreRows, AreRowsWithin, AreSliceRows, HasAdded, HoldsSame, row_lists};
-ghost use Rattle.pnm_image.specs.HeldRows.{slice_lists};
+ghost use Rattle.pnm_image.specs.HeldRows.{slice_bytes, slice_lists};
 ghost use Rattle.pnm_image.specs.Internal.PickedRows.{AreEvery, HasAddedRow, HasPicked};
 ghost use Rattle.pnm_image.specs.Rows.{every};
 
@@ -100,11 +100,13 @@ impl RowVec {
 
 impl RowSlice<'_> {
     /// How many bytes the rows take as they are held.
-    pub fn bytes(self) -> usize {
+    pub fn bytes(self) -> usize
+        ensures { result ≡ slice_bytes self.entry }
+    {
         match self {
             RowSlice::Bits(rows) => rows.parts().0.len(),
             RowSlice::Bytes(bytes) => bytes.len(),
-            RowSlice::Words(words) => words.len().saturating_mul(2),
+            RowSlice::Words(words) => words.len() * 2,
         }
     }
 

@@ -19,7 +19,8 @@ use crate::spare_rows::SpareRows;
 use crate::units::{append_wide, are_units_within, units_in_row};
 use pnm_image::{Bits, BytesIn, Rows, SampleVec, SampleWidth, Samples, Shape};
 
-/// The next rows: those that are held whole, after one read if none is; or one row, which is read to its end. No sample is above the maxval.
+/// The next rows: those that are held whole, after one read if none is; or one row, which is read to its end.
+/// No sample is above the maxval.
 pub fn read_rows<R: BytesIn>(
     input: &mut BufferedReader<R>,
     spares: &mut SpareRows,

@@ -88,9 +88,9 @@ impl<R: BytesIn> Source<R> {
     }
 
     /// The next packet, or `None` after the end of the stream, for good. Of an image it is as many rows as are held
-    /// whole, or one row, for which it reads; before them the head, if it was just read, and behind them the image's end,
-    /// if they are the last. The head comes without rows if the image is plain, or if none of them is held whole or
-    /// comes before a sample above the maxval, and with the end if there are none.
+    /// whole, or one row, for which it reads; before them the head, if it was just read, and behind them the image's
+    /// end, if they are the last. The head comes without rows if the image is plain, or if none of them is held whole
+    /// or comes before a sample above the maxval, and with the end if there are none.
     ///
     /// The fault is the first that the text has (see `InputFault`), after all that comes before it. If the reader
     /// fails, `ReadFailed` takes the place of all later faults; if memory runs out, `Memory` does. After a fault,

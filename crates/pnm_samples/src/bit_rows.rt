@@ -150,8 +150,8 @@ impl BitRows {
         Ok(true)
     }
 
-    /// Adds a row of `each` pixels at the end, which the bytes hold. Returns false, and adds nothing, if these rows were
-    /// made with another row length.
+    /// Adds a row of `each` pixels at the end, which the bytes hold. Returns false, and adds nothing, if the other rows
+    /// were made with another row length.
     ///
     /// # Errors
     ///

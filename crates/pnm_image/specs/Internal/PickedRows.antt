@@ -17,4 +17,5 @@ pub record AreEvery (count from step many : ℕ) : Type 0 where
 -- runs of so many, each of which is that of the number
 pub record HasPicked {X : Type 0} (many each from step : ℕ) (runs picked : List X) : Type 0 where
   pub long : length picked ≡ many * each
-  pub same : (at : ℕ) → at < many → take each (drop (at * each) picked) ≡ take each (drop ((from + at * step) * each) runs)
+  pub same : (at : ℕ) → at < many
+      → take each (drop (at * each) picked) ≡ take each (drop ((from + at * step) * each) runs)

@@ -17,7 +17,8 @@ every_of-requires c =
     let r = c.self.inside in
     let many : length c.args.self.now ≡ r.count = ap (λ (l : List (List ℕ)). length l) (sym c.self.view_is)
     ∙ length_of_lists r.count r.row_length r.held c.self.invariant.1 in
-    (r.count, c.self.invariant.1, every_by_quotient r.count c.args.from c.args.step _ (omega (arith, many, c.requires.from)) c.requires.step c.div_ceil-many.ensures)
+    let from : c.args.from < r.count = omega (arith, many, c.requires.from) in
+    (r.count, c.self.invariant.1, every_by_quotient r.count c.args.from c.args.step _ from c.requires.step c.div_ceil-many.ensures)
 
 pub new-requires-clause-some : goal.new-requires-clause-some
 new-requires-clause-some c =
