@@ -1,14 +1,13 @@
 -- What is received of lanes and held.
-use Rattle.pnm_lanes.proofs.Words.{◌≡◌, ◌≢◌, inl, inr, ℕ, ◌<◌, ◌≤◌, List, [], ◌∷◌, ◌++◌, length, get_or, set, refl, sym, ap, subst, ◌∙◌, arith, AllByRecursion}
-use Rattle.pnm_lanes.proofs.Words.{Message, Stop, Packet, Place, IsMessage, EndsBy, StageEnd, Broken, PeerGone, Fault, Memory, OutOfOrder, Err, messages_in}
-use Rattle.pnm_lanes.proofs.Words.{ending_of_packet, Receiver, received, at_lane, LaneState, state_by, IsOfStream, HasTakenParts, HasTakenNone, HasTakenWhole}
-use Rattle.pnm_lanes.proofs.Words.{AreHolding, BeginsNone, HasPassed, IsNotTogether, Held, in_held, next_of, IsLawfulFrom, place_of, dealt_from, CutOutside}
+use Rattle.pnm_lanes.proofs.Words.{◌≡◌, ◌≢◌, ℕ, ◌<◌, ◌≤◌, List, ◌++◌, length, get_or, set, sym, subst, ◌∙◌, AllByRecursion}
+use Rattle.pnm_lanes.proofs.Words.{Message, Packet, Place, IsMessage, EndsBy, StageEnd, Broken, PeerGone, Fault, Memory, OutOfOrder, messages_in}
+use Rattle.pnm_lanes.proofs.Words.{ending_of_packet, Receiver, received, at_lane, LaneState, state_by, IsOfStream, HasTakenNone, HasTakenWhole}
+use Rattle.pnm_lanes.proofs.Words.{AreHolding, HasPassed, IsNotTogether, Held, in_held, next_of, IsLawfulFrom, place_of, dealt_from, CutOutside}
 use Rattle.pnm_lanes.proofs.Words.{ChannelOutside, TooLarge, Well}
 use Rattle.pnm_lanes.specs.declared.held.Next.TheVariants.{Nothing, Stop as NextStop}
-use Rattle.pnm_lanes.proofs.LaneLists.{at_lane-get, at_lane-set, at_lane-others}
+use Rattle.pnm_lanes.proofs.LaneLists.{at_lane-set, at_lane-others}
 use Rattle.pnm_lanes.proofs.DealtParts.{all_of_rest}
 use Rattle.pnm_lanes.proofs.TakenParts.{by_lane, stop_alone, packet_of_stream, more_of, more_here, taken_same, taken_none, taken_more, held_more}
-use Rattle.pnm_lanes.proofs.TakenParts.{something_next}
 
 -- ---- one lane
 
@@ -26,37 +25,38 @@ module _ (lanes lane : ℕ) (ends : List Receiver) (new other : Receiver) (state
       (none : next_of (at_lane in_held held lane) ≡ Nothing) (are : AllByRecursion IsMessage (messages_in packet))
       (is_end : EndsBy (ending_of_packet packet) (messages_in packet))
       (given : received new ≡ received (get_or ends lane other) ++ messages_in packet) (holding : AreHolding lanes states passed (at_lane received ends) held)
-      where
-    pub no_memory : HasTakenNone lanes place (Fault Memory) (set states lane (state_by (ending_of_packet packet))) passed (at_lane received (set ends lane new))
-    no_memory = record {
-      taken = more_of lane (messages_in packet) (at_lane in_held held);
-      parts = taken_more lanes lane ends new other states passed held packet below within within_states none are is_end given holding;
-      cause = tt;
-    }
+    where
+      pub no_memory : HasTakenNone lanes place (Fault Memory) (set states lane (state_by (ending_of_packet packet))) passed
+          (at_lane received (set ends lane new))
+      no_memory = record {
+        taken = more_of lane (messages_in packet) (at_lane in_held held);
+        parts = taken_more lanes lane ends new other states passed held packet below within within_states none are is_end given holding;
+        cause = tt;
+      }
 
-    pub lane_stopped : next_of (messages_in packet) ≡ NextStop
-        → HasTakenNone lanes place Broken (set states lane (state_by (ending_of_packet packet))) passed (at_lane received (set ends lane new))
-    lane_stopped stop = record {
-      taken = more_of lane (messages_in packet) (at_lane in_held held);
-      parts = taken_more lanes lane ends new other states passed held packet below within within_states none are is_end given holding;
-      cause = (
-        lane,
-        below,
-        more_here lane (messages_in packet) (at_lane in_held held) ∙ stop_alone (ending_of_packet packet) (messages_in packet) is_end stop,
-      );
-    }
+      pub lane_stopped : next_of (messages_in packet) ≡ NextStop
+          → HasTakenNone lanes place Broken (set states lane (state_by (ending_of_packet packet))) passed (at_lane received (set ends lane new))
+      lane_stopped stop = record {
+        taken = more_of lane (messages_in packet) (at_lane in_held held);
+        parts = taken_more lanes lane ends new other states passed held packet below within within_states none are is_end given holding;
+        cause = (
+          lane,
+          below,
+          more_here lane (messages_in packet) (at_lane in_held held) ∙ stop_alone (ending_of_packet packet) (messages_in packet) is_end stop,
+        );
+      }
 
-    pub lane_filled : (now : Held) → lane < length held → in_held now ≡ messages_in packet → next_of (messages_in packet) ≢ NextStop
-        → AreHolding lanes (set states lane (state_by (ending_of_packet packet))) passed (at_lane received (set ends lane new)) (set held lane now)
-    lane_filled now within_held is differs = record {
-      parts = taken_same lanes (set states lane (state_by (ending_of_packet packet))) passed (at_lane received (set ends lane new))
-          (more_of lane (messages_in packet) (at_lane in_held held)) (at_lane in_held (set held lane now))
-          (λ l b. held_more lane held now (messages_in packet) l within_held is)
-          (taken_more lanes lane ends new other states passed held packet below within within_states none are is_end given holding);
-      stream = λ l b. by_lane (λ (n : ℕ). n < lanes → AllByRecursion IsOfStream (at_lane in_held (set held lane now) n)) lane l
-          (λ b. subst (AllByRecursion IsOfStream) (sym (at_lane-set in_held held lane now within_held ∙ is)) (packet_of_stream packet differs are is_end))
-          (λ differ b. subst (AllByRecursion IsOfStream) (sym (at_lane-others in_held held lane now l differ)) (holding.stream l b)) b;
-    }
+      pub lane_filled : (now : Held) → lane < length held → in_held now ≡ messages_in packet → next_of (messages_in packet) ≢ NextStop
+          → AreHolding lanes (set states lane (state_by (ending_of_packet packet))) passed (at_lane received (set ends lane new)) (set held lane now)
+      lane_filled now within_held is differs = record {
+        parts = taken_same lanes (set states lane (state_by (ending_of_packet packet))) passed (at_lane received (set ends lane new))
+            (more_of lane (messages_in packet) (at_lane in_held held)) (at_lane in_held (set held lane now))
+            (λ l b. held_more lane held now (messages_in packet) l within_held is)
+            (taken_more lanes lane ends new other states passed held packet below within within_states none are is_end given holding);
+        stream = λ l b. by_lane (λ (n : ℕ). n < lanes → AllByRecursion IsOfStream (at_lane in_held (set held lane now) n)) lane l
+            (λ b. subst (AllByRecursion IsOfStream) (sym (at_lane-set in_held held lane now within_held ∙ is)) (packet_of_stream packet differs are is_end))
+            (λ differ b. subst (AllByRecursion IsOfStream) (sym (at_lane-others in_held held lane now l differ)) (holding.stream l b)) b;
+      }
 
 -- what is held then
 pub holds_some : (held : List Held) (lane : ℕ) (now : Held) → lane < length held → 1 ≤ length (in_held now)

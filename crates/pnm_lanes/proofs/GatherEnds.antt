@@ -120,7 +120,8 @@ module _ {lanes : ℕ} {gave : List Message} {taken : ℕ → List Message} wher
   pub prefix_of_images : {took : ℕ → List Message} {is : List Image} → 0 < lanes → IsLawful gave → AllByRecursion IsOfStream gave
       → HasLeft lanes gave taken took → AreDealt is lanes took → IsPrefixOf gave (messages_of_stream is)
   prefix_of_images {took} {is} some lawful stream left are =
-      parts_tell_the_whole lanes Between gave (messages_of_stream is) some (lawful_fits Between gave lawful stream) (stream_is_lawful is are.images) stream (images_of_stream is are.images)
+      parts_tell_the_whole lanes Between gave (messages_of_stream is) some (lawful_fits Between gave lawful stream) (stream_is_lawful is are.images) stream
+      (images_of_stream is are.images)
       (λ lane below. prefix_of_prefix (dealt lane lanes gave) (without_stop (took lane)) (dealt lane lanes (messages_of_stream is))
       (kept_prefix (dealt lane lanes gave) (taken lane ++ left.drained lane) (dealt_of_stream lane lanes Between gave stream)
       (left.parts lane below ∙ append_assoc (dealt lane lanes gave) (taken lane) (left.drained lane))) (are.prefixes lane below))

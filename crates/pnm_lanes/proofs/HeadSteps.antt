@@ -1,8 +1,7 @@
 -- The heads that the lanes hold, and the head of the image whose rows were dealt to them.
-use Rattle.pnm_lanes.proofs.Words.{◌≡◌, ◌≢◌, inl, inr, ℕ, ◌+◌, ◌<◌, ◌≤◌, List, [], ◌∷◌, ◌++◌, length, get_or, set, take, refl, sym, ap, subst, ◌∙◌, arith}
-use Rattle.pnm_lanes.proofs.Words.{cases_lt, get_or-set_same, get_or-set_other, get_or-take, length-take-le, Message, Begin, IsPrefixOf, HeadValue, IsHead}
-use Rattle.pnm_lanes.proofs.Words.{with_height, MAX_SIDE, dealt_head, dealt_height, at_lane, Held, in_held, next_of, AreDealtHeads, AreDealtHeights}
-use Rattle.pnm_lanes.specs.declared.held.Next.TheVariants.{Head as NextHead}
+use Rattle.pnm_lanes.proofs.Words.{◌≡◌, ℕ, ◌+◌, ◌<◌, ◌≤◌, List, [], ◌∷◌, length, get_or, set, take, refl, sym, ap, subst, ◌∙◌, arith}
+use Rattle.pnm_lanes.proofs.Words.{get_or-set_same, get_or-set_other, get_or-take, length-take-le, Message, Begin, IsPrefixOf, HeadValue, IsHead}
+use Rattle.pnm_lanes.proofs.Words.{with_height, MAX_SIDE, dealt_head, dealt_height, at_lane, Held, in_held, AreDealtHeads, AreDealtHeights}
 use Rattle.pnm_lanes.proofs.LaneLists.{at_lane-get, at_lane-set, at_lane-others}
 use Rattle.pnm_lanes.proofs.PartLaws.{begins_so, same_begin}
 use Rattle.pnm_lanes.proofs.TakenParts.{by_lane}
@@ -31,9 +30,6 @@ module _ (lane : ℕ) {first : HeadValue} {heights : List ℕ} {olds nows : List
         (sym (at_lane-others in_held nows lane new l differ))) below;
     others = λ l reached. at_lane-others in_held nows lane new l (λ e. absurd (omega (arith, e, reached))) ∙ alike.others l (omega (arith, reached));
   }
-
-pub none_alike : (first : HeadValue) (heights : List ℕ) (held : List Held) → AreAlikeUntil 0 first heights held held
-none_alike first heights held = record { before = λ l below. absurd (omega (arith, below)); others = λ l reached. refl }
 
 module _ {lanes lane : ℕ} {first : HeadValue} (whole : HeadValue) {heights : List ℕ} {olds nows : List Held} where
   -- a head of which the lanes hold their parts is the first lane's, but for the height

@@ -1,6 +1,7 @@
 -- What is held of a lane, and what comes next of it.
-use Rattle.pnm_lanes.proofs.Words.{◌≡◌, ◌≢◌, ℕ, zero, suc, Bool, true, false, ◌+◌, ◌<◌, ◌≤◌, List, [], ◌∷◌, ◌++◌, length, get_or, drop, refl, sym, ap, subst, ◌∙◌, arith, rules}
-use Rattle.pnm_lanes.proofs.Words.{Option, Some, None, drop_more, Message, Begin, Row, Ending, HeadValue, row_messages, end_messages, rows_list, next_of}
+use Rattle.pnm_lanes.proofs.Words.{◌≡◌, ◌≢◌, ℕ, zero, suc, Bool, true, false, ◌+◌, ◌<◌, ◌≤◌, List, [], ◌∷◌, ◌++◌, length, get_or, drop, refl, sym, ap, subst}
+use Rattle.pnm_lanes.proofs.Words.{◌∙◌, arith}
+use Rattle.pnm_lanes.proofs.Words.{Option, Some, None, drop_more, Message, Row, Ending, HeadValue, row_messages, end_messages, next_of}
 use Rattle.pnm_lanes.proofs.Words.{held_messages, last_messages, HasPassedRow, IfSome, IfNone, More, Whole, BrokenOff}
 use Rattle.std.proofs.lemmas.List.{drop_all}
 use Rattle.std.specs.Prelude.{take}
@@ -68,7 +69,8 @@ pub next_row_stays : {rows : Option (List (List ℕ))} (head : Option HeadValue)
 next_row_stays {rows} head passed r ends ending headless is below =
     let more : List Message = end_messages ends ++ last_messages ending in
     let at : (n : ℕ) → held_messages head n rows ends ending ≡ row_messages (drop n r) ++ more =
-    λ n. ap (λ (h : Option HeadValue). held_messages h n rows ends ending) headless ∙ ap (λ (x : Option (List (List ℕ))). held_messages None n x ends ending) is in
+    λ n. ap (λ (h : Option HeadValue). held_messages h n rows ends ending) headless
+    ∙ ap (λ (x : Option (List (List ℕ))). held_messages None n x ends ending) is in
     at (passed + 1) ∙ sym (ap (drop 1) (at passed ∙ next_row passed r more below))
 
 -- it is
@@ -79,7 +81,8 @@ last_row_goes {rows} head passed r ends ending headless is below last =
     let more : List Message = end_messages ends ++ last_messages ending in
     let without : held_messages head passed None ends ending ≡ more = ap (λ (h : Option HeadValue). held_messages h passed None ends ending) headless in
     let whole : held_messages head passed rows ends ending ≡ row_messages (drop passed r) ++ more =
-    ap (λ (h : Option HeadValue). held_messages h passed rows ends ending) headless ∙ ap (λ (x : Option (List (List ℕ))). held_messages None passed x ends ending) is in
+    ap (λ (h : Option HeadValue). held_messages h passed rows ends ending) headless
+    ∙ ap (λ (x : Option (List (List ℕ))). held_messages None passed x ends ending) is in
     without ∙ sym (ap (drop 1) (whole ∙ next_row passed r more below) ∙ ap (λ (l : List (List ℕ)). row_messages l ++ more) (drop_all (passed + 1) r last))
 
 only_row : (passed : ℕ) (r : List (List ℕ)) (ends : Bool) (ending : Ending) → length r ≡ 1 → passed < length r

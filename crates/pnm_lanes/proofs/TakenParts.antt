@@ -1,9 +1,9 @@
 -- What was taken of each lane, lane by lane.
 use Rattle.pnm_lanes.proofs.Words.{◌≡◌, ◌≢◌, inl, inr, ℕ, ◌<◌, ◌≤◌, List, [], ◌∷◌, ◌++◌, length, get_or, set, refl, sym, ap, subst, ◌∙◌, append-nil, arith}
 use Rattle.pnm_lanes.proofs.Words.{◌==◌, if◌then◌else◌, AllByRecursion, cases_eq, nat_tests, get_or-set_same, get_or-set_other, Message, Begin, Row, ImageEnd}
-use Rattle.pnm_lanes.proofs.Words.{StreamEnd, Stop, Packet, Place, IsMessage, EndsBy, Ending, More, Whole, BrokenOff, StageEnd, Broken, messages_in}
-use Rattle.pnm_lanes.proofs.Words.{ending_of_packet, Receiver, received, at_lane, LaneState, Open, Ended, IsOfStream, state_at, state_by, IsLeftBy, HasTakenParts}
-use Rattle.pnm_lanes.proofs.Words.{HasTakenNone, AreHolding, Held, in_held, Next, next_of, zero, suc}
+use Rattle.pnm_lanes.proofs.Words.{StreamEnd, Stop, Packet, IsMessage, EndsBy, Ending, More, Whole, BrokenOff, messages_in}
+use Rattle.pnm_lanes.proofs.Words.{ending_of_packet, Receiver, received, at_lane, LaneState, Open, IsOfStream, state_at, state_by, IsLeftBy, HasTakenParts}
+use Rattle.pnm_lanes.proofs.Words.{AreHolding, Held, in_held, next_of, zero, suc}
 use Rattle.pnm_lanes.specs.declared.held.Next.TheVariants.{Nothing, Stop as NextStop}
 use Rattle.pnm_image.specs.declared.packet.Packet.TheVariants.{Part, StreamEnd as EndsStream, Stop as Stops}
 use Rattle.pnm_lanes.proofs.LaneLists.{at_lane-get, at_lane-set, at_lane-others}

@@ -1,10 +1,12 @@
 -- What is held of the lanes, put together.
-use Rattle.pnm_lanes.proofs.Words.{◌≡◌, ◌≢◌, inl, inr, ℕ, zero, suc, ◌%◌, ◌+◌, ◌<◌, ◌≤◌, Bool, true, false, List, [], ◌∷◌, ◌++◌, length, drop, get_or, set, refl}
-use Rattle.pnm_lanes.proofs.Words.{sym, ap, subst, ◌∙◌, append_assoc, append-nil, arith, map, Option, Some, None, mod_below, Message, Begin, Row, ImageEnd, StreamEnd}
-use Rattle.pnm_lanes.proofs.Words.{Stop, Place, Between, Inside, After, Shape, HeadValue, IsHead, IsPrefixOf, AllByRecursion, Accepts, IsLawfulFrom, place_after, place_of}
-use Rattle.pnm_lanes.proofs.Words.{place_of-append, lawful_prefix, prefix_of_prefix, row_messages, rows_list, head_messages, end_messages, rest_messages, part_messages}
-use Rattle.pnm_lanes.proofs.Words.{dealt_head, dealt_message, dealt_from, at_lane, Held, in_held, next_of, Next, IsOfStream, Fits, FitsFrom, BeginsNone, HasPassed}
-use Rattle.pnm_lanes.proofs.Words.{HasAddedRows, HoldEach, HoldNext, AreDealtHeads, EndsBy, More, EndNothing, HasPassedRow, ◌==◌, if◌then◌else◌, nat_tests, map-append, length-append}
+use Rattle.pnm_lanes.proofs.Words.{◌≡◌, ◌≢◌, ℕ, ◌%◌, ◌+◌, ◌<◌, ◌≤◌, Bool, true, false, List, [], ◌∷◌, ◌++◌, length, drop, get_or, set, refl}
+use Rattle.pnm_lanes.proofs.Words.{sym, ap, subst, ◌∙◌, append_assoc, append-nil, arith, map, Option, Some, None, mod_below, Message, Begin, Row, ImageEnd}
+use Rattle.pnm_lanes.proofs.Words.{StreamEnd}
+use Rattle.pnm_lanes.proofs.Words.{Stop, Place, Between, Inside, After, Shape, HeadValue, IsHead, IsPrefixOf, IsLawfulFrom, place_after, place_of}
+use Rattle.pnm_lanes.proofs.Words.{lawful_prefix, prefix_of_prefix, row_messages, rows_list, end_messages, rest_messages, part_messages}
+use Rattle.pnm_lanes.proofs.Words.{dealt_head, dealt_message, dealt_from, at_lane, Held, in_held, next_of, IsOfStream, FitsFrom, BeginsNone, HasPassed}
+use Rattle.pnm_lanes.proofs.Words.{HasAddedRows, HoldEach, AreDealtHeads, EndsBy, More, EndNothing, HasPassedRow, ◌==◌, if◌then◌else◌, nat_tests, map-append}
+use Rattle.pnm_lanes.proofs.Words.{length-append}
 use Rattle.pnm_image.proofs.Places.{place_of-rows}
 use Rattle.pnm_lanes.specs.declared.held.Next.TheVariants.{Row as NextRow, ImageEnd as NextImageEnd, StreamEnd as NextStreamEnd}
 use Rattle.pnm_lanes.proofs.DealtLaws.{dealt_from-append, nothing_goes_on}
@@ -87,9 +89,6 @@ pub record AreAdded (lanes : ℕ) (s : Shape) (from y : ℕ) (rows_old rows_new 
   pub passed : HasPassed lanes (Inside s from) (row_messages more) olds news
   pub reached : from + length more ≡ y
 
-pub none_added : {lanes : ℕ} {s : Shape} {from y : ℕ} {rows : List (List ℕ)} {held : List Held} → from ≡ y → AreAdded lanes s from y rows rows held held
-none_added {rows} same = record { more = []; added = sym (append-nil rows); passed = passed_none; reached = omega (arith, same) }
-
 pub one_added : {lanes : ℕ} {s : Shape} {from y : ℕ} {rows_old rows : List (List ℕ)} {olds : List Held} (rows_new : List (List ℕ)) (nows : List Held)
     (lane : ℕ) (new other : Held) → AreAdded lanes s from y rows_old rows olds nows → lane ≡ y % lanes → lane < length nows → y < s.height
     → HasPassedRow rows rows_new (in_held (get_or nows lane other)) (in_held new) → AreAdded lanes s from (y + 1) rows_old rows_new olds (set nows lane new)
@@ -137,48 +136,6 @@ rows_passed {lanes} {s} {y} {first} {rows} {news} olds lane new other own within
       omega (arith, ap length all, more),
     )
 
--- ---- the ends of an image, or of the stream
-
-image_end_next : (l : List Message) → next_of l ≡ NextImageEnd → l ≡ ImageEnd ∷ drop 1 l
-image_end_next [] is = absurd cc
-image_end_next (Begin head ∷ l) is = absurd cc
-image_end_next (Row row ∷ l) is = absurd cc
-image_end_next (ImageEnd ∷ l) is = refl
-image_end_next (StreamEnd ∷ l) is = absurd cc
-image_end_next (Stop ∷ l) is = absurd cc
-
-stream_end_next : (l : List Message) → next_of l ≡ NextStreamEnd → l ≡ StreamEnd ∷ drop 1 l
-stream_end_next [] is = absurd cc
-stream_end_next (Begin head ∷ l) is = absurd cc
-stream_end_next (Row row ∷ l) is = absurd cc
-stream_end_next (ImageEnd ∷ l) is = absurd cc
-stream_end_next (StreamEnd ∷ l) is = refl
-stream_end_next (Stop ∷ l) is = absurd cc
-
-module _ {lanes : ℕ} {olds news : List Held} where
-  pub image_ended : {s : Shape} {y : ℕ} → y ≡ s.height → ((lane : ℕ) → lane < lanes → (next_of (at_lane in_held olds lane) ≡ NextImageEnd)
-      × (at_lane in_held news lane ≡ drop 1 (at_lane in_held olds lane))) → HasPassed lanes (Inside s y) (ImageEnd ∷ []) olds news
-  image_ended reached each = record {
-    fit = (reached, tt);
-    stream = (tt, tt);
-    parts = λ lane below. image_end_next (at_lane in_held olds lane) (each lane below).0
-        ∙ ap (λ (l : List Message). ImageEnd ∷ l) (sym (each lane below).1);
-  }
-
-  pub stream_ended : ((lane : ℕ) → lane < lanes → (next_of (at_lane in_held olds lane) ≡ NextStreamEnd)
-      × (at_lane in_held news lane ≡ drop 1 (at_lane in_held olds lane))) → HasPassed lanes Between (StreamEnd ∷ []) olds news
-  stream_ended each = record {
-    fit = (tt, tt);
-    stream = (tt, tt);
-    parts = λ lane below. stream_end_next (at_lane in_held olds lane) (each lane below).0
-        ∙ ap (λ (l : List Message). StreamEnd ∷ l) (sym (each lane below).1);
-  }
-
-  pub head_passed : (head : HeadValue) → IsHead head
-      → ((lane : ℕ) → lane < lanes → at_lane in_held olds lane ≡ Begin (dealt_head lane lanes head) ∷ at_lane in_held news lane)
-      → HasPassed lanes Between (Begin head ∷ []) olds news
-  head_passed head is each = record { fit = (tt, tt); stream = (is, tt); parts = each }
-
 -- rows, and what comes behind them
 pub rest_passed : {lanes : ℕ} {s : Shape} (y end : ℕ) (rows : List (List ℕ)) (rest : List Message) {olds nows news : List Held}
     → HasPassed lanes (Inside s y) (row_messages rows) olds nows → end ≡ y + length rows → HasPassed lanes (Inside s end) rest nows news
@@ -186,12 +143,6 @@ pub rest_passed : {lanes : ℕ} {s : Shape} (y end : ℕ) (rows : List (List ℕ
 rest_passed {lanes} {s} y end rows rest {nows = nows} {news = news} passed is more =
     passed_then (row_messages rows) rest passed
     (subst (λ (p : Place). HasPassed lanes p rest nows news) (sym (place_of-rows s y rows ∙ ap (Inside s) (sym is))) more)
-
--- a head, and what comes behind it
-pub part_passed : {lanes : ℕ} (head : HeadValue) (rest : List Message) {olds nows news : List Held} → IsHead head
-    → ((lane : ℕ) → lane < lanes → at_lane in_held olds lane ≡ Begin (dealt_head lane lanes head) ∷ at_lane in_held nows lane)
-    → HasPassed lanes (Inside head.shape 0) rest nows news → HasPassed lanes Between (Begin head ∷ rest) olds news
-part_passed head rest is each more = passed_then (Begin head ∷ []) rest (head_passed head is each) more
 
 -- ---- what begins no stream
 

@@ -6,8 +6,8 @@ pub use Rattle.pnm_image.specs.Completion.{Completes, IsPrefixOf, IsStreamOf}
 pub use Rattle.pnm_image.specs.Heads.{HeadValue, IsHead, with_height}
 pub use Rattle.pnm_image.specs.Images.{AreImages, Image, IsImage, messages_of_image, messages_of_stream, rows_of}
 pub use Rattle.pnm_image.specs.Messages.{EndsBy, IsMessage, ending_of, without_stop}
-pub use Rattle.pnm_image.specs.Packets.{ending_of_packet, messages_in, packet_list}
-pub use Rattle.pnm_image.specs.Parts.{end_messages, head_messages, part_messages, rest_messages}
+pub use Rattle.pnm_image.specs.Packets.{ending_of_packet, messages_in}
+pub use Rattle.pnm_image.specs.Parts.{end_messages, part_messages, rest_messages}
 pub use Rattle.pnm_image.specs.Places.{Accepts, IsLawful, IsLawfulFrom, place_after, place_of}
 pub use Rattle.pnm_image.specs.Rows.{every, row_messages, rows_list}
 pub use Rattle.pnm_image.specs.declared.limits.TheConstants.{MAX_SIDE}
@@ -27,11 +27,11 @@ pub use Rattle.pnm_lanes.specs.Internal.DealParts.{IsReason, IsRefused, IsSameEn
 pub use Rattle.pnm_lanes.specs.Internal.DealParts.{stream_end}
 pub use Rattle.pnm_lanes.specs.Internal.GatherParts.{AreDealtHeights, AreLanes, BeginsNone, CarriesOn, HasBrokenOffAll}
 pub use Rattle.pnm_lanes.specs.Internal.GatherParts.{HasDrainedAll, HasDrainedOne, HasStopped}
-pub use Rattle.pnm_lanes.specs.Internal.GatherParts.{HasTakenNext, HasTakenNone, HasTakenParts, HasTakenWhole, IsCause, IsDone, IsLane, IsLeftBy}
+pub use Rattle.pnm_lanes.specs.Internal.GatherParts.{HasTakenNone, HasTakenParts, HasTakenWhole, IsCause, IsDone, IsLane, IsLeftBy}
 pub use Rattle.pnm_lanes.specs.Internal.GatherParts.{IsOfStream, state_at, state_by}
 pub use Rattle.pnm_lanes.specs.Internal.GatherParts.{AreDealtHeads, AreHolding, Fits, FitsFrom, HasAddedRows, HasFilled, HasPassed, HoldEach, HoldNext}
 pub use Rattle.pnm_lanes.specs.Internal.GatherParts.{IsNotTogether}
-pub use Rattle.pnm_lanes.specs.Internal.HeldMessages.{HasPassedRow, held_messages, in_held, last_messages, next_of, rows_left}
+pub use Rattle.pnm_lanes.specs.Internal.HeldMessages.{HasPassedRow, held_messages, in_held, last_messages, next_of}
 pub use Rattle.pnm_lanes.specs.Internal.LaneLaws.{dealt_head_result}
 pub use Rattle.pnm_lanes.specs.LaneLaws.{dealt_images, results_before}
 pub use Rattle.pnm_lanes.specs.LaneLimits.{IsLaneCount}
@@ -41,7 +41,6 @@ pub use Rattle.pnm_lanes.specs.Lanes.{AreThere, HasFailedInLanes, HaveLanesEnded
 pub use Rattle.pnm_lanes.specs.Lanes.{IsFirstRefusedHead, IsStageOfLanes}
 pub use Rattle.pnm_lanes.specs.declared.around.OuterRingEnds.{OuterRingEnds}
 pub use Rattle.pnm_lanes.specs.declared.held.Held.{Held}
-pub use Rattle.pnm_lanes.specs.declared.held.Next.{Next}
 pub use Rattle.pnm_lanes.specs.declared.lane.LaneState.{LaneState}
 pub use Rattle.pnm_lanes.specs.declared.lane.LaneState.TheVariants.{Ended, Gone, Open}
 pub use Rattle.pnm_lanes.specs.declared.lane_rings.LaneRingEnds.{LaneRingEnds}
@@ -85,8 +84,6 @@ pub use Rattle.std.proofs.Common.{◌+◌, ◌-◌, ◌/◌, ◌<◌, ◌∙◌,
 pub use Rattle.std.proofs.lemmas.Bool.{cases_eq, cases_lt, false≢true}
 pub use Rattle.std.proofs.lemmas.Bool.Decides.{nat_tests}
 pub use Rattle.std.proofs.lemmas.Grind.{common_steps}
-pub use Rattle.std.proofs.lemmas.Iterator.{YieldsList-from_slice}
-pub use Rattle.std.proofs.lemmas.Iterator.Search.{any_from_yields_List}
 pub use Rattle.std.proofs.lemmas.List.{append_cancel_left, drop_at, drop_more, get_or-set_other, get_or-set_same, get_or-take, length-append, length-set}
 pub use Rattle.std.proofs.lemmas.List.{length-take, length-take-le, map-append, take-append-drop, take_all, take_at}
 pub use Rattle.std.proofs.lemmas.List.Sums.{sum_by-cons}
@@ -94,6 +91,6 @@ pub use Rattle.std.proofs.lemmas.Nat.{div-add-mod', mod-mul-add, mod_below}
 pub use Rattle.std.proofs.lemmas.Result.{err_from_is_err_and}
 pub use Rattle.std.specs.Global.{Vec}
 pub use Rattle.std.specs.List.{AllByRecursion}
-pub use Rattle.std.specs.Option.{IfNone, ok_or}
+pub use Rattle.std.specs.Option.{IfNone}
 pub use Rattle.std.specs.Prelude.{IfSome, IsSome, if◌then◌else◌, nat_lt, slice_set, ◌==◌}
 pub use Rattle.std.specs.Result.{result_ok}

@@ -71,7 +71,8 @@ HasSentAll is lanes took gave =
     → ((lane : ℕ) → lane < lanes → IsPrefixOf (dealt lane lanes (prefix ++ m ∷ [])) (took lane))
     → IsPrefixOf (prefix ++ m ∷ []) gave
 
--- the only fault is want of memory then. Well: the stream of these images was sent. Broken: all that all lanes gave was.
+-- the only fault is want of memory then. Well: the stream of these images was sent. Broken: all that all lanes gave
+-- was.
 abbrev pub HasGatheredSo : StageEnd → List Image → ℕ → (ℕ → List Message) → List Message → Type 0
 HasGatheredSo Well is lanes took gave = gave ≡ messages_of_stream is
 HasGatheredSo Broken is lanes took gave = HasSentAll is lanes took gave

@@ -15,8 +15,8 @@ use crate::lane::MAX_LANES;
 use pnm_image::limits::MAX_SIDE;
 use pnm_image::{Head, Shape};
 
-/// Takes the heads of all lanes, and returns that of the image whose rows were dealt to them. Returns `None` if there is
-/// no such image.
+/// Takes the heads of all lanes, and returns that of the image whose rows were dealt to them. Returns `None` if there
+/// is no such image.
 pub fn take_heads(held: &mut [Held]) -> Option<Head>
     requires some { 1 ≤ length held.old }
     requires few { length held.old ≤ MAX_LANES }

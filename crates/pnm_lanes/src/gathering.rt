@@ -30,11 +30,11 @@ pub struct GatherDone {
 
 /// Puts together what comes on `inputs`, one for each lane, and sends it on `output`. Row y comes from lane y mod the
 /// number of lanes, and a head is that of each lane, with the height of the whole image. Rows that lie in the lanes
-/// together go on together. It ends `Well` with the end of the stream, once each lane has given that; `Broken` if a lane
-/// gives Stop; by `Fault(OutOfOrder)` if the lanes don't agree, or if a message is out of place; and by `Fault(Memory)`
-/// if there is no memory for rows together. After `Broken` and `Fault` it has sent Stop and drained all lanes; it tries
-/// them in turn, and waits for none alone. If the other end of a ring was seen dropped, it ends by `PeerGone`, and has
-/// sent Stop, if there is someone to take it, and drained the lanes.
+/// together go on together. It ends `Well` with the end of the stream, once each lane has given that; `Broken` if a
+/// lane gives Stop; by `Fault(OutOfOrder)` if the lanes don't agree, or if a message is out of place; and by
+/// `Fault(Memory)` if there is no memory for rows together. After `Broken` and `Fault` it has sent Stop and drained all
+/// lanes; it tries them in turn, and waits for none alone. If the other end of a ring was seen dropped, it ends by
+/// `PeerGone`, and has sent Stop, if there is someone to take it, and drained the lanes.
 ///
 /// The lanes' sending ends should have `output` as their home (`Sender::set_home`), where this thread sleeps while it
 /// drains. Otherwise nothing but the time-out may end such a sleep.

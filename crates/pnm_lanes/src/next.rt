@@ -17,8 +17,8 @@ use std::alloc::Global;
 use std::sync::Wait;
 
 /// Receives what comes next of the whole stream, and goes on to the place after it. Returns `Broken` if a lane gives
-/// Stop, and `Fault` if the lanes don't agree, if something is out of place, or if there is no memory for rows together.
-/// Returns `PeerGone` if a lane's other end was seen dropped before.
+/// Stop, and `Fault` if the lanes don't agree, if something is out of place, or if there is no memory for rows
+/// together. Returns `PeerGone` if a lane's other end was seen dropped before.
 pub fn receive_next<R: Wait>(
     rt: &R,
     alloc: Global,
@@ -67,13 +67,15 @@ fn await_lanes<R: Wait>(
     ensures as_many { (length states.new ≡ length states.old) × (length held.new ≡ length held.old) }
 {
     match place {
-        Place::Inside(shape, y) if y < shape.height => await_row(rt, alloc, inputs, states, held, y),
+        Place::Inside(shape, y) if y < shape.height => await_row(
+            rt, alloc, inputs, states, held, y,
+        ),
         _ => fill_each(rt, alloc, inputs, states, held),
     }
 }
 
-/// Receives of the lane of row `y`. If that was dealt more together with the row, each of the others was dealt its part,
-/// too, and is received of.
+/// Receives of the lane of row `y`. If that gives the row with others, or with the end of the image, each of the other
+/// lanes was dealt its part of these, and is received of, too.
 fn await_row<R: Wait>(
     rt: &R,
     alloc: Global,

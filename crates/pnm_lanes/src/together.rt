@@ -1,6 +1,7 @@
 //! What is held of the lanes, put together.
 
-ghost use Rattle.std.specs.Prelude.{◌≡◌, ◌≢◌, ◌<◌, ◌≤◌, ◌+◌, ◌%◌, ◌^◌, ℕ, None, false, length, drop, IfOk, IfErr, IfSome};
+ghost use Rattle.std.specs.Prelude.{◌≡◌, ◌≢◌, ◌<◌, ◌≤◌, ◌+◌, ◌%◌, ◌^◌, ℕ, None, false, length, drop, IfOk, IfErr};
+ghost use Rattle.std.specs.Prelude.{IfSome};
 ghost use Rattle.std.specs.Prelude.{IfNone, IsTrue, IsFalse, OnOk};
 ghost use Rattle.pnm_image.specs.declared.place.Place.TheVariants.{Between, Inside};
 ghost use Rattle.pnm_image.specs.Packets.{messages_in, ending_of_packet};
@@ -23,8 +24,8 @@ use std::alloc::{AllocError, Global};
 /// The lanes don't agree, or a message is out of place.
 pub const OUT_OF_ORDER: StageEnd = StageEnd::Fault(ToolFault::OutOfOrder);
 
-/// Puts together what comes next of what is held: a head, rows and the end of the image, or some of these, or the end of
-/// the stream. Returns `Fault` if the lanes don't agree, or if there is no memory.
+/// Puts together what comes next of what is held: a head, rows and the end of the image, or some of these, or the end
+/// of the stream. Returns `Fault` if the lanes don't agree, or if there is no memory.
 pub fn put_together(alloc: Global, held: &mut [Held], place: Place) -> Result<Packet, StageEnd>
     requires some { 1 ≤ length held.old }
     requires few { length held.old ≤ MAX_LANES }
@@ -47,7 +48,8 @@ fn begin(alloc: Global, held: &mut [Held]) -> Result<Packet, StageEnd>
     requires some { 1 ≤ length held.old }
     requires few { length held.old ≤ MAX_LANES }
     requires each { HoldEach (length held.old) held.old }
-    ensures passed { IfOk result (λ packet. HasPassed (length held.old) Between (messages_in packet) held.old held.new) }
+    ensures passed { IfOk result (λ packet.
+        HasPassed (length held.old) Between (messages_in packet) held.old held.new) }
     ensures ends { IfOk result (λ packet. EndsBy (ending_of_packet packet) (messages_in packet)) }
     ensures not { IfErr result (λ end. IsNotTogether end (length held.old) Between held.old) }
     ensures as_many { length held.new ≡ length held.old }
@@ -179,12 +181,7 @@ fn take_rows(
 /// # Errors
 ///
 /// If there is no memory for them.
-fn add_rows(
-    held: &mut [Held],
-    rows: &mut Rows,
-    shape: Shape,
-    from: u32,
-) -> Result<(), AllocError>
+fn add_rows(held: &mut [Held], rows: &mut Rows, shape: Shape, from: u32) -> Result<(), AllocError>
     requires some { 1 ≤ length held.old }
     requires within { from ≤ shape.height }
     ensures added { OnOk result (HasAddedRows (length held.old) shape from rows.old rows.new held.old held.new) }

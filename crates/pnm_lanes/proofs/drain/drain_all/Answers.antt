@@ -1,4 +1,4 @@
-use Rattle.pnm_lanes.proofs.Words.{length, arith, received, known_items, at_lane}
+use Rattle.pnm_lanes.proofs.Words.{arith}
 use Rattle.pnm_lanes.proofs.LaneLists.{are_themselves}
 use Rattle.pnm_lanes.proofs.DrainSteps.{carries_nothing, tried_both}
 use Rattle.pnm_lanes.proofs.drain.drain_all.Goals as goal

@@ -1,4 +1,3 @@
-use Rattle.pnm_lanes.proofs.Words.{length, received, known_items, at_lane}
 use Rattle.pnm_lanes.proofs.LaneLists.{are_themselves}
 use Rattle.pnm_lanes.proofs.DrainSteps.{carries_nothing, tried_both}
 use Rattle.pnm_lanes.proofs.drain.drain_round.Goals as goal

@@ -1,4 +1,4 @@
-use Rattle.pnm_lanes.proofs.Words.{◌≡◌, ◌≤◌, ℕ, List, length, refl, sym, subst, ◌∙◌, arith, length-take-le, sent, received, known_items, at_lane, itself_output}
+use Rattle.pnm_lanes.proofs.Words.{◌≡◌, ℕ, length, refl, sym, subst, ◌∙◌, arith, length-take-le, sent, received, known_items, at_lane, itself_output}
 use Rattle.pnm_lanes.proofs.Words.{[], Open, in_held, same_output, HasBrokenOffAll, HasDrainedAll, AreHolding}
 use Rattle.pnm_lanes.proofs.LaneLists.{are_themselves, same_inputs, as_many}
 use Rattle.pnm_lanes.proofs.GatherSteps.{nothing_gathered, still_gathering, says_more, first_of_all}

@@ -1,6 +1,6 @@
-use Rattle.pnm_lanes.proofs.Words.{◌≡◌, ◌≢◌, ◌<◌, length, set, sym, subst, ◌∙◌, arith, rules, List, Message, StageEnd, Broken, Fault, Memory, LaneState, HasTakenNone, AreHolding}
+use Rattle.pnm_lanes.proofs.Words.{◌≡◌, ◌≢◌, ◌<◌, length, set, sym, subst, ◌∙◌, arith, rules, List, Message, Broken, Fault, Memory, LaneState, HasTakenNone}
+use Rattle.pnm_lanes.proofs.Words.{AreHolding}
 use Rattle.pnm_lanes.proofs.Words.{received, at_lane, in_held, next_of, ap, ◌≤◌}
-use Rattle.pnm_lanes.specs.declared.held.Next.{Next}
 use Rattle.pnm_lanes.specs.declared.held.Next.TheVariants.{Nothing, Stop as NextStop}
 use Rattle.pnm_lanes.proofs.LaneLists.{are_themselves, one_changed, at_lane-get}
 use Rattle.pnm_lanes.proofs.TakenParts.{something_next}
@@ -22,8 +22,8 @@ returns-in_default-clause-inputs g c =
 
 pub returns-in_default-clause-filled : goal.returns-in_default-clause-filled
 returns-in_default-clause-filled g c place passed holding =
-    lane_gone (length c.args.inputs.now) c.args.lane c.args.inputs.now c.receive.new.self c.index-inputs-lane.result c.args.states.now passed c.args.held.now place
-    c.requires.lane c.in_default.ensures.none_seen.0 holding
+    lane_gone (length c.args.inputs.now) c.args.lane c.args.inputs.now c.receive.new.self c.index-inputs-lane.result c.args.states.now passed c.args.held.now
+    place c.requires.lane c.in_default.ensures.none_seen.0 holding
 
 pub returns-in_default-of-clause-inputs : goal.returns-in_default-of-clause-inputs
 returns-in_default-of-clause-inputs g c =
@@ -52,8 +52,8 @@ returns-then-eq-clause-filled g c place passed holding =
     let stop : c.next-next.result ≡ NextStop = search rules in
     subst (λ (s : LaneState). HasTakenNone (length c.args.inputs.now) place Broken (set c.args.states.now c.args.lane s) passed
     (at_lane received (set c.args.inputs.now c.args.lane c.receive.new.self))) (sym c.state_after.ensures)
-    (lane_stopped (length c.args.inputs.now) c.args.lane c.args.inputs.now c.receive.new.self c.index-inputs-lane.result c.args.states.now passed c.args.held.now
-    place c.in-Some.packet c.requires.lane c.requires.lane (omega (arith, c.requires.lane, c.requires.states))
+    (lane_stopped (length c.args.inputs.now) c.args.lane c.args.inputs.now c.receive.new.self c.index-inputs-lane.result c.args.states.now passed
+    c.args.held.now place c.in-Some.packet c.requires.lane c.requires.lane (omega (arith, c.requires.lane, c.requires.states))
     (ap next_of here ∙ sym c.next.ensures ∙ nothing) c.in-Some.ensures.messages c.in-Some.ensures.ends c.in-Some.ensures.taken holding
     (ap next_of (sym c.in-Ok.ensures) ∙ sym c.next-next.ensures ∙ stop))
 

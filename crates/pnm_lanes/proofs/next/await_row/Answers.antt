@@ -1,4 +1,4 @@
-use Rattle.pnm_lanes.proofs.Words.{ℕ, length, sym, subst, received, at_lane, AreHolding, HasFilled}
+use Rattle.pnm_lanes.proofs.Words.{ℕ, sym, subst, received, at_lane, AreHolding, HasFilled}
 use Rattle.pnm_lanes.proofs.LaneLists.{same_inputs, as_many}
 use Rattle.pnm_lanes.proofs.next.await_row.Goals as goal
 

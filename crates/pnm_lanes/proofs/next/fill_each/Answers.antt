@@ -1,4 +1,4 @@
-use Rattle.pnm_lanes.proofs.Words.{◌≡◌, ◌+◌, ◌<◌, ◌≤◌, ℕ, List, length, refl, sym, subst, ◌∙◌, arith, received, at_lane, in_held, Message, Between, AreHolding}
+use Rattle.pnm_lanes.proofs.Words.{◌+◌, ◌<◌, ◌≤◌, ℕ, length, refl, sym, subst, ◌∙◌, arith, received, at_lane, in_held, Between, AreHolding}
 use Rattle.pnm_lanes.proofs.LaneLists.{are_themselves, same_inputs, as_many}
 use Rattle.pnm_lanes.proofs.TakenParts.{by_lane}
 use Rattle.pnm_lanes.proofs.next.fill_each.Goals as goal

@@ -1,4 +1,4 @@
-use Rattle.pnm_lanes.proofs.Words.{◌≡◌, ℕ, length, sym, subst, ◌∙◌, refl, err_from_is_err_and, Fault, OutOfOrder, messages_in, IsNotTogether, HasPassed}
+use Rattle.pnm_lanes.proofs.Words.{◌≡◌, ℕ, length, sym, subst, ◌∙◌, err_from_is_err_and, Fault, OutOfOrder, messages_in, IsNotTogether, HasPassed}
 use Rattle.pnm_lanes.proofs.TogetherSteps.{not_lawful}
 use Rattle.pnm_lanes.proofs.FillSteps.{not_together, put_together}
 use Rattle.pnm_lanes.proofs.next.receive_next.Goals as goal

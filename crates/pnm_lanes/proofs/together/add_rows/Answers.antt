@@ -1,4 +1,4 @@
-use Rattle.pnm_lanes.proofs.Words.{◌≡◌, ◌<◌, ◌≤◌, ◌%◌, ℕ, length, ap, ◌∙◌, arith, mod_below, length-set}
+use Rattle.pnm_lanes.proofs.Words.{◌<◌, ◌%◌, ℕ, length, ap, ◌∙◌, arith, mod_below, length-set}
 use Rattle.pnm_lanes.proofs.TogetherSteps.{one_added, added_same, are_added}
 use Rattle.pnm_lanes.proofs.together.add_rows.Goals as goal
 

@@ -1,4 +1,4 @@
-use Rattle.pnm_lanes.proofs.Words.{List, Message, Some, length, sym, subst, HeadValue, IsHead, EndsBy, More, AreDealtHeads, at_lane, in_held, Held}
+use Rattle.pnm_lanes.proofs.Words.{List, Some, length, sym, subst, HeadValue, IsHead, EndsBy, More, AreDealtHeads, at_lane, in_held, Held}
 use Rattle.pnm_lanes.proofs.TogetherSteps.{nothing_begins, part_goes_on}
 use Rattle.pnm_lanes.proofs.together.begin.Goals as goal
 

@@ -1,4 +1,4 @@
-use Rattle.pnm_lanes.proofs.Words.{List, Message, None, sym, subst, EndsBy, More}
+use Rattle.pnm_lanes.proofs.Words.{None, sym, subst, EndsBy, More}
 use Rattle.pnm_lanes.proofs.TogetherSteps.{part_goes_on}
 use Rattle.pnm_lanes.proofs.together.go_on.Goals as goal
 

@@ -1,4 +1,3 @@
-use Rattle.pnm_lanes.proofs.Words.{arith, rules}
 use Rattle.pnm_lanes.proofs.TogetherSteps.{no_end_comes}
 use Rattle.pnm_lanes.proofs.together.take_image_end.Goals as goal
 

@@ -1,5 +1,5 @@
-use Rattle.pnm_lanes.proofs.Words.{◌≡◌, ◌≢◌, ◌<◌, ◌≤◌, ◌+◌, ◌%◌, ℕ, List, [], length, get_or, set, refl, sym, ap, subst, ◌∙◌, arith, mod_below, length-set}
-use Rattle.pnm_lanes.proofs.Words.{IfNone, IfSome, Option, at_lane, in_held, next_of, HasPassedRow, HasAddedRows, Held}
+use Rattle.pnm_lanes.proofs.Words.{◌≡◌, ◌≢◌, ◌<◌, ◌+◌, ◌%◌, ℕ, List, [], length, get_or, set, refl, sym, ap, subst, ◌∙◌, arith, mod_below, length-set}
+use Rattle.pnm_lanes.proofs.Words.{IfNone, IfSome, Option, in_held, next_of, HasPassedRow, HasAddedRows, Held}
 use Rattle.pnm_lanes.specs.declared.held.Next.TheVariants.{Row as NextRow}
 use Rattle.pnm_lanes.proofs.LaneLists.{at_lane-get}
 use Rattle.pnm_lanes.proofs.TogetherSteps.{passed_same, rows_passed}
