@@ -199,7 +199,8 @@ edit("lanes.pml", f"{CALLER_ALONE} HOLDS=0 NO_FAULTS MOST_ROWS=3 ONE_HEIGHT M_NO
      "threaded.rt, run: without output.set_home(..)")
 BLOCKS = "rows in blocks"
 for size, is_big in ("LANES=2 MOST_ROWS=4", False), ("LANES=3 MOST_ROWS=5", True):
-    holds("lanes.pml", f"{size} BARE CAP=1 COARSE BLOCKS {ALONE}", f"{LANES}; each a ring alone, {BLOCKS}", is_big=is_big)
+    holds("lanes.pml", f"{size} BARE CAP=1 COARSE BLOCKS {ALONE}", f"{LANES}; each a ring alone, {BLOCKS}",
+          is_big=is_big)
 holds("lanes.pml", f"{BARE} MOST_ROWS=4 ONE_HEIGHT NO_FAULTS BLOCKS", f"{LANES}; {BLOCKS}", is_long=True)
 holds("lanes.pml", f"{CALLER_ALONE} HOLDS=0 NO_FAULTS MOST_ROWS=3 ONE_HEIGHT BLOCKS",
       f"{CALLED}; each lane a ring alone, {BLOCKS}", is_big=True)

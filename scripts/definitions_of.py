@@ -4,8 +4,7 @@
 From the clauses of the function's contract it follows each name to its definition in crates/*/specs, or to the
 `ghost` member of a trait in crates/*/src, and from there the names in that definition, over all crates. The types and
 constants that the code declares, and the toolchain's own definitions, aren't counted. It tells how many definitions
-there are, in how many files, how many such members, and how many of all are bookkeeping: what BOOKKEEPING names, with
-the reason there.
+there are, in how many files, and how many such members.
 --names tells the definitions. The count goes by names alone: a variable that has a definition's name counts as that.
 """
 
@@ -17,41 +16,6 @@ import sys
 import typing
 
 from places import ROOT
-
-# What says nothing of an image, a tool, a fault or a byte by itself, and has to be read all the same: by a crate and a
-# file of its specs, the beginnings of the names of such definitions, and why. No beginning stands for the whole file.
-BOOKKEEPING = {
-    ("pnm_image", "Messages"): (["without_stop"], "leaves a last Stop aside"),
-    ("pnm_image", "Places"): (["IsLawfulFrom", "place_of"], "steps along messages"),
-    ("pnm_samples", "Pixels"): (["pixel_bits"], "a step along the bits of a byte"),
-    ("pnm_read", "HeaderTexts"): (
-        ["commented", "ends_in_", "uncommented_from"],
-        "steps along a text: inside a comment or a word",
-    ),
-    ("pnm_image", "Texts"): (["runs_between"], "cuts a text, for its words"),
-    ("pnm_read", "PamLines"): (["trimmed"], "cuts a line, for its values"),
-    ("pnm_read", "Items"): (
-        ["after_last", "decimal_end", "ends_in_", "fault_of_", "header_end", "is_complete"]
-        + ["piece_from", "pixel_end", "pixel_in", "shape_in"],
-        "where a piece of a text ends, and what of it was read so far",
-    ),
-    ("pnm_read", "Said"): (
-        ["ends_stream", "format_at", "head_at", "head_by", "in_turn", "last_plain_row", "later_"]
-        + ["pam_", "pnm_", "plain_row", "raw_row", "row_", "rows_said", "says_", "then_said", "units_"],
-        "goes through a text piece by piece, and hands on what is left of it",
-    ),
-    ("pnm_write", "Encoding"): (["bytes_at", "bytes_from", "bytes_in"], "steps along messages"),
-    ("pnm_write", "Forms"): (["has_begun_after", "plain_taken_from"], "steps along messages"),
-    ("pnm_write", "PlainRows"): (["words_after"], "a step along a line"),
-    ("pnm_tools", "Answers"): (["Begins", "IfBegin", "begun_", "images_ended"], "which part of a stream has come"),
-    ("pnm_tools", "Chains"): (["applied_in_turn", "refusal_from"], "steps along a chain"),
-    ("pnm_serial", "Counts"): (["saturate_"], "a counter that stops at its greatest number"),
-    ("pnm_serial", "Jobs"): (["job_of"], "puts two arguments into a record"),
-    ("pnm_serial", "Runs"): (["Change", "change"], "a device before and after a call"),
-    ("pnm_serial", "RunFacts"): (["IfGone", "IfInput", "IfOutput", "IfTool"], "cases of an answer"),
-    ("pnm_flow", "ChainRuns"): ([], "chooses between one lane and several"),
-    ("pnm_flow", "ThreadedRuns"): (["fault_of_end", "first_fault_from"], "cases of an answer"),
-}
 
 HEAD = re.compile(r"(?:abbrev|unfoldable)(?: pub)? (?!use\b)(\S+)|(?:pub )?(?:record|data) (\S+)")
 USE = re.compile(r"(?:pub |ghost )?use Rattle\.(\w+)\.specs\.([\w.]+?)(?:\.\{([^}]*)\}|( as \w+)|);?$")
@@ -228,20 +192,6 @@ def definitions_of(root, path):
     return specs.reached(starts) | of_traits
 
 
-def is_bookkeeping(name):
-    beginnings = BOOKKEEPING.get((name.crate, name.file), (None,))[0]
-    return beginnings is not None and (not beginnings or name.name.startswith(tuple(beginnings)))
-
-
-def gone(specs):
-    """What BOOKKEEPING names and no specs have any more."""
-    for place, (beginnings, _) in BOOKKEEPING.items():
-        names = [it.name for it in specs.bodies if it[:2] == place]
-        for beginning in beginnings or [""]:
-            if not any(name.startswith(beginning) for name in names):
-                yield f"{' '.join(place)} {beginning}".strip()
-
-
 def main():
     parser = argparse.ArgumentParser(description=__doc__, formatter_class=argparse.RawDescriptionHelpFormatter)
     parser.add_argument("function", metavar="CRATE::FUNCTION")
@@ -250,15 +200,11 @@ def main():
     args = parser.parse_args()
     found = definitions_of(args.root, args.function)
     of_specs = [name for name in found if not name.file.endswith(".rt")]
-    kept = [name for name in found if is_bookkeeping(name)]
-    for name in gone(Specs(args.root)):
-        print(f"definitions_of: BOOKKEEPING names {name}, which isn't there any more")
     if args.names:
         for name in sorted(found):
-            print(f"{name.crate} {name.file} {name.name}{' (bookkeeping)' * is_bookkeeping(name)}")
+            print(*name)
     told = f"{len(of_specs)} definitions in {len({name[:2] for name in of_specs})} files of specs"
-    told += f" and {len(found) - len(of_specs)} ghost members, {len(kept)} of all bookkeeping"
-    print(f"{args.function}: {told}")
+    print(f"{args.function}: {told} and {len(found) - len(of_specs)} ghost members")
 
 
 if __name__ == "__main__":

@@ -4,7 +4,6 @@
 import os
 import tempfile
 import unittest
-import unittest.mock
 
 import support  # first, since it finds the others
 
@@ -123,18 +122,6 @@ class Definitions(unittest.TestCase):
         for path in ("high::none", "high::one", "none::run"):
             with self.assertRaises(SystemExit):
                 self.told(path)
-
-    def test_bookkeeping(self):
-        found = self.told("high::run")
-        for kinds, count in (({}, 0), ({ROWS: (["Is"], "why")}, 2), ({ROWS: ([], "why"), RUNS: (["kind"], "why")}, 5)):
-            with unittest.mock.patch.object(definitions_of, "BOOKKEEPING", kinds):
-                self.assertEqual(sum(map(definitions_of.is_bookkeeping, found)), count)
-
-    def test_bookkeeping_that_is_gone(self):
-        kinds = {ROWS: (["Is", "Was"], "why"), RUNS: ([], "why"), ("none", "Rows"): ([], "why")}
-        with unittest.mock.patch.object(definitions_of, "BOOKKEEPING", kinds):
-            told = list(definitions_of.gone(definitions_of.Specs(self.root)))
-        self.assertEqual(told, ["low Rows Was", "none Rows"])
 
 
 if __name__ == "__main__":
