@@ -81,7 +81,6 @@ def times_of(folder, environment, count, runs):
 def add_options(parser):
     parser.add_argument("--library", default=f"{ROOT}/bin/libpnmpipe.so.1")
     parser.add_argument("--floor", action="store_true", help="beside them a loop in C that only reads and writes")
-    parser.add_argument("--part", type=int, default=1, metavar="N", help="one of N files alone")
 
 
 def run(args, folder):
@@ -99,7 +98,6 @@ def run(args, folder):
         WAYS[FLOOR] = built(folder, "copies.c")
     found = {}
     for name, suffix, count, image in SETS:
-        count //= args.part
         fill(folder, suffix, count, image)
         found[f"{count:,} {name}"] = times_of(folder, environment, count, args.runs)
     chain = CHAIN.replace("|", "\\|")

@@ -17,7 +17,7 @@ from tool_table import LEAVING_PAM
 RUNS = 3
 COLUMNS = ["image", "tool", "pnmpipe", "Netpbm", "over Netpbm"]
 
-WIDTH = 4000
+WIDTH, BITS = 4000, 64_000_000
 
 # the bits of a pixel, and the header of each kind for a width and a height
 KINDS = {
@@ -61,10 +61,10 @@ def named_pairs(kind):
     yield from ((f"pnmtile {sizes}", factor) for sizes, factor in TILES)
 
 
-def sized(folder, form, factor, bits):
-    """An image of about so many bits, or that becomes so many by the factor; its path, width and height."""
+def sized(folder, form, factor):
+    """An image of about BITS bits, or that becomes so many by the factor; its path, width and height."""
     each, header = form
-    pixels = max(1, int(bits / each / max(1, factor)))
+    pixels = max(1, int(BITS / each / max(1, factor)))
     width = min(WIDTH, pixels)
     height = max(1, pixels // width)
     count = (width * each + 7) // 8 * height
@@ -85,7 +85,7 @@ def measured(args, folder, kind, tool, factor):
     """Medians of the processor seconds of both, whether they wrote the same, the image's size, and the chain."""
     is_leaving_pam = kind == "pam" and tool.split()[0] in LEAVING_PAM
     form = RGB_PAM if is_leaving_pam else KINDS[kind]
-    path, width, height = sized(folder, form, factor, args.megabytes * 8e6)
+    path, width, height = sized(folder, form, factor)
     chain = tool.format(high=height, twice=2 * height)
     wanted, made = (os.path.join(folder, name) for name in ("wanted", "made"))
     results = medians_in_turn([([args.program, chain], made), (chain.split(), wanted)], path, args.runs)
@@ -100,22 +100,18 @@ def line_of(args, folder, kind, tool, factor):
     ours, peers, is_same, size, chain = measured(args, folder, kind, tool, factor)
     ratio = ours / max(peers, 1e-4) if ours is not None else float("nan")
     note = "" if is_same else " (failed)" if ours is None else " (OTHER BYTES)"
-    if not args.above or not is_same or ratio > args.bound:
-        seconds = ["-", "-"] if ours is None else [f"{ours:.3f}", f"{peers:.3f}"]
-        print_line([f"{kind} {size[0]} by {size[1]}", f"`{chain}`", *seconds, f"{ratio:.2f}{note}"])
+    seconds = ["-", "-"] if ours is None else [f"{ours:.3f}", f"{peers:.3f}"]
+    print_line([f"{kind} {size[0]} by {size[1]}", f"`{chain}`", *seconds, f"{ratio:.2f}{note}"])
     return ratio, is_same, chain
 
 
 def add_options(parser):
     parser.add_argument("--kind", action="append", choices=list(KINDS), help="by default all")
     parser.add_argument("--tool", action="append", help="how a tool with its options begins; by default all")
-    parser.add_argument("--megabytes", type=float, default=8, help="of each image, or of its result where that is more")
-    parser.add_argument("--bound", type=float, default=1.0, help="the ratio above which a pair is named")
-    parser.add_argument("--above", action="store_true", help="prints lines of pairs above the bound alone")
 
 
 def run(args, folder):
-    """All pairs, then those above the bound once more."""
+    """All pairs, then those above 1.0 once more."""
     differing, above, count = 0, [], 0
     print_columns(COLUMNS)
     for kind in args.kind or KINDS:
@@ -125,9 +121,9 @@ def run(args, folder):
             ratio, is_same, chain = line_of(args, folder, kind, tool, factor)
             count += 1
             differing += not is_same
-            if is_same and ratio > args.bound:
+            if is_same and ratio > 1.0:
                 above.append((kind, tool, factor, chain, ratio))
-    print(f"\n{count} pairs, {len(above)} above {args.bound} of Netpbm's processor time; these once more:\n")
+    print(f"\n{count} pairs, {len(above)} above 1.0 of Netpbm's processor time; these once more:\n")
     print_columns(COLUMNS)
     again = [(*pair, line_of(args, folder, *pair[:3])[0]) for pair in above]
     print()
