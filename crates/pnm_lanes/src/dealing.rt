@@ -151,8 +151,8 @@ fn deal_unfed<R: Wait>(
     }
 }
 
-/// What comes next of a packet, if all of it may come at this place, or else its first message; and the place after
-/// that. Returns `None` if nothing is left.
+/// Takes what comes next of a packet, or only its first message if not all of it may come at this place. Returns it
+/// with the place after it, or `None` if nothing is left.
 ///
 /// # Errors
 ///
@@ -219,7 +219,7 @@ fn send_part<R: Wait>(
     ensures { HasSentParts (part_at (length outputs.old) place part) result outputs.old outputs.new }
 {
     let (head, rows, ends_image) = part.into_parts();
-    let Ok(mut rows) = once(alloc, rows) else {
+    let Ok(mut rows) = all_copies(alloc, rows) else {
         return Some(StageEnd::Fault(ToolFault::Memory));
     };
     let lanes = outputs.len() as u32;
@@ -237,7 +237,7 @@ fn send_part<R: Wait>(
     unsent
 }
 
-/// The number of the row that comes next at a place, 0 where none can.
+/// Returns the number of the row that comes next at a place, or 0 if none can come.
 fn next_row(place: Place) -> u32
     ensures { result ≡ row_at place }
 {
@@ -247,12 +247,12 @@ fn next_row(place: Place) -> u32
     }
 }
 
-/// The rows, all their copies one after another.
+/// Returns the rows with all their copies, one after another.
 ///
 /// # Errors
 ///
-/// If there is no memory for these.
-fn once(alloc: Global, rows: Option<RepeatedRows>) -> Result<Option<Rows>, AllocError>
+/// If there is no memory for the copies.
+fn all_copies(alloc: Global, rows: Option<RepeatedRows>) -> Result<Option<Rows>, AllocError>
     ensures { IfOk result (λ held. rows_list held ≡ rows_list rows) }
 {
     match rows {
@@ -261,8 +261,8 @@ fn once(alloc: Global, rows: Option<RepeatedRows>) -> Result<Option<Rows>, Alloc
     }
 }
 
-/// What the lane whose turn it is gets of a part of an image, if it gets something. Takes the rows out if they aren't
-/// needed for the turns that follow.
+/// Returns what the lane whose turn it is gets of a part of an image, if it gets something. Takes the rows out if the
+/// turns that follow don't need them.
 ///
 /// # Errors
 ///
@@ -288,7 +288,7 @@ fn part_of(
     Ok(Part::of(head, rows.map(RepeatedRows::once), ends_image).map(Packet::Part))
 }
 
-/// A lane's copy of a head, if one comes, with the number of the lane's rows as the height.
+/// Returns a lane's copy of a head, if there is one, with the number of the lane's rows as the height.
 ///
 /// # Errors
 ///
@@ -308,8 +308,8 @@ fn head_of(head: &Option<Head>, lane: u32, lanes: u32) -> Result<Option<Head>, A
     Ok(Some(head.with_height(height)))
 }
 
-/// Of the rows, if some come, those of number `from`, `from + lanes`, and so on, as a copy; a single row, or those of a
-/// single lane, are taken out.
+/// Returns a copy of row `from` and of every row that comes `lanes` rows behind one that is copied. Takes the rows
+/// themselves out if there is a single row, or a single lane. Returns `None` if there is no row `from`.
 ///
 /// # Errors
 ///
