@@ -168,8 +168,8 @@ fn take_rows(
     if y >= shape.height {
         return Ok(None);
     }
-    let lane = y as usize % held.len();
-    let Some(mut rows) = held[lane].take_row(alloc)? else {
+    let own = y as usize % held.len();
+    let Some(mut rows) = held[own].take_row(alloc)? else {
         return Ok(None);
     };
     add_rows(held, &mut rows, shape, y + 1)?;

@@ -14,19 +14,19 @@ returns-in_default-clause-passed c =
     let held = c.args.held.now in
     let lane : ℕ = c.args.y % length held in
     let within : lane < length held = mod_below c.args.y (length held) c.requires.some in
-    let none : StaysWhole (get_or held lane c.index-held-lane.result) c.take_row.new.self =
-    subst (λ (o : Option (List (List ℕ))). IfNone o (StaysWhole (get_or held lane c.index-held-lane.result) c.take_row.new.self)) c.in_default.is
+    let none : StaysWhole (get_or held lane c.index-held-own.result) c.take_row.new.self =
+    subst (λ (o : Option (List (List ℕ))). IfNone o (StaysWhole (get_or held lane c.index-held-own.result) c.take_row.new.self)) c.in_default.is
     c.in_ok-rows.ensures.none in
-    passed_same held lane c.take_row.new.self c.index-held-lane.result within none.0
+    passed_same held lane c.take_row.new.self c.index-held-own.result within none.0
 
 pub returns-in_default-clause-none : goal.returns-in_default-clause-none
 returns-in_default-clause-none c below is =
     let held = c.args.held.now in
     let lane : ℕ = c.args.y % length held in
     let within : lane < length held = mod_below c.args.y (length held) c.requires.some in
-    let here = at_lane-get in_held held lane c.index-held-lane.result within in
-    let none : StaysWhole (get_or held lane c.index-held-lane.result) c.take_row.new.self =
-    subst (λ (o : Option (List (List ℕ))). IfNone o (StaysWhole (get_or held lane c.index-held-lane.result) c.take_row.new.self)) c.in_default.is
+    let here = at_lane-get in_held held lane c.index-held-own.result within in
+    let none : StaysWhole (get_or held lane c.index-held-own.result) c.take_row.new.self =
+    subst (λ (o : Option (List (List ℕ))). IfNone o (StaysWhole (get_or held lane c.index-held-own.result) c.take_row.new.self)) c.in_default.is
     c.in_ok-rows.ensures.none in
     none.1 (sym (ap next_of here) ∙ is)
 
@@ -35,9 +35,9 @@ returns-clause-passed c =
     let held = c.args.held.now in
     let lane : ℕ = c.args.y % length held in
     let within : lane < length held = mod_below c.args.y (length held) c.requires.some in
-    let first : HasPassedRow [] c.in-Some.rows (in_held (get_or held lane c.index-held-lane.result)) (in_held c.take_row.new.self) =
-    subst (λ (o : Option (List (List ℕ))). IfSome o (λ rows. HasPassedRow [] rows (in_held (get_or held lane c.index-held-lane.result))
+    let first : HasPassedRow [] c.in-Some.rows (in_held (get_or held lane c.index-held-own.result)) (in_held c.take_row.new.self) =
+    subst (λ (o : Option (List (List ℕ))). IfSome o (λ rows. HasPassedRow [] rows (in_held (get_or held lane c.index-held-own.result))
     (in_held c.take_row.new.self))) c.in-Some.is c.in_ok-rows.ensures.row in
     let added = subst (λ (n : ℕ). HasAddedRows n c.args.shape (c.args.y + 1) c.in-Some.rows c.add_rows.new.rows (set held lane c.take_row.new.self)
     c.add_rows.new.held) (length-set held lane c.take_row.new.self) c.in_ok-add_rows.ensures.added in
-    (rows_passed held lane c.take_row.new.self c.index-held-lane.result refl within (omega (arith, c.if-y-shape.false)) first added).0
+    (rows_passed held lane c.take_row.new.self c.index-held-own.result refl within (omega (arith, c.if-y-shape.false)) first added).0
