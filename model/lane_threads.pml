@@ -207,9 +207,11 @@ done:
 #define ENDED 1
 #define GONE  2
 
-/* fill; `ok` where there is a message that isn't Stop */
-inline receive_from(lane, m) {
-    await_message(FROM(lane), ok);
+/* what is held of a lane: rows, and a message behind them */
+#define HOLDS_NOTHING(lane) (rows[lane] == 0 && then[lane] == 0)
+
+/* fill: receives from a lane of which nothing is held; `ok` where something that isn't Stop is */
+inline fill(lane) {
     if
     :: HOLDS_NOTHING(lane) ->
         await_message(FROM(lane), ok);
@@ -292,15 +294,33 @@ proctype Gatherer() {
 next: /* await_lanes, await_row */
     ok = 1;
     if
-    :: inside && y < height -> /* await_row */
-        receive_from(y % LANES, m);
-        first = m;
-        ok = (ok && m == A_ROW);
-        y++
-    :: else -> /* fill_each, put_together */
-        receive_from(0, first);
-        ok = (ok && (inside -> first == IEND : (first == SEND || IS_HEAD(first))));
-        lane = 1;
+    :: inside && y < height ->
+        fill(y % LANES);
+        if
+#ifdef M_AWAITS_EACH_LANE_AT_A_ROW
+        :: ok -> fill_each()
+#else
+        :: ok && (rows[y % LANES] > 1 || rows[y % LANES] == 1 && then[y % LANES] != 0) -> fill_each()
+#endif
+        :: else
+        fi
+    :: else -> fill_each()
+    fi;
+    if :: !ok -> goto break_off :: else fi;
+    /* put_together */
+    if
+    :: inside && y < height -> /* take_rows */
+        ok = (rows[y % LANES] > 0);
+        first = ROW;
+        do
+        :: y < height && rows[y % LANES] > 0 ->
+            d_step { rows[y % LANES]--; y++ }
+        :: else -> break
+        od
+    :: else ->
+        first = then[0];
+        ok = (rows[0] == 0 && (inside -> first == IEND : (first == SEND || IS_HEAD(first))));
+        lane = 0;
         do
         :: !ok || lane == LANES -> break
         :: else -> ok = (rows[lane] == 0 && then[lane] == first); then[lane] = 0; lane++
