@@ -6,8 +6,8 @@ pub use Rattle.pnm_image.specs.Completion.{Completes, IsPrefixOf, IsStreamOf}
 pub use Rattle.pnm_image.specs.Heads.{HeadValue, IsHead, with_height}
 pub use Rattle.pnm_image.specs.Images.{AreImages, Image, IsImage, messages_of_image, messages_of_stream, rows_of}
 pub use Rattle.pnm_image.specs.Messages.{EndsBy, IsMessage, ending_of, without_stop}
-pub use Rattle.pnm_image.specs.Packets.{ending_of_packet, messages_in}
-pub use Rattle.pnm_image.specs.Parts.{end_messages, part_messages, rest_messages}
+pub use Rattle.pnm_image.specs.Packets.{ending_of_packet, messages_in, packet_list}
+pub use Rattle.pnm_image.specs.Parts.{end_messages, head_messages, part_messages, rest_messages}
 pub use Rattle.pnm_image.specs.Places.{Accepts, IsLawful, IsLawfulFrom, place_after, place_of}
 pub use Rattle.pnm_image.specs.Rows.{every, row_messages, rows_list}
 pub use Rattle.pnm_image.specs.declared.limits.TheConstants.{MAX_SIDE}
