@@ -9,7 +9,8 @@ use Rattle.pnm_lanes.proofs.Words.{HasGatheredSo, HasGathered, IsOfStream, state
 use Rattle.pnm_lanes.proofs.Words.{AreLanes, CarriesOn, IsDone, HasStopped, HasBrokenOffAll, HasDrainedAll, Packet, messages_in, ending_of_packet, StreamEnd}
 use Rattle.pnm_lanes.proofs.Words.{Held, in_held, at_lane}
 use Rattle.pnm_image.specs.declared.packet.Packet.TheVariants.{Part, StreamEnd as EndsStream, Stop as Stops}
-use Rattle.pnm_lanes.proofs.PartLaws.{dealt_from-append, prefix_cancel, parts_tell_the_whole, lawful_fits}
+use Rattle.pnm_lanes.proofs.DealtLaws.{dealt_from-append}
+use Rattle.pnm_lanes.proofs.PartLaws.{prefix_cancel, parts_tell_the_whole, lawful_fits}
 use Rattle.pnm_lanes.proofs.DealtParts.{all_of_both, all_of_rest, all_messages, stream_keeps_all, lawful_rest, dealt_of_stream, dealt_goes_on, dealt_end}
 use Rattle.pnm_lanes.proofs.DealtParts.{images_of_stream, gets_part, prefixes_in_order, last_stays, not_before_stop}
 use Rattle.pnm_lanes.proofs.GatherSteps.{IsGoing, dealt_with, lawful_with, sent_with, lanes_after}

@@ -6,7 +6,7 @@ use Rattle.pnm_lanes.proofs.Words.{EndNothing, ends_nothing, LaneState, Open, En
 use Rattle.pnm_lanes.proofs.Words.{AreLanes, AreHolding, Packet, messages_in, ending_of_packet, Held, in_held, at_lane, IsEnded}
 use Rattle.pnm_image.specs.declared.packet.Packet.TheVariants.{Part, StreamEnd as EndsStream, Stop as Stops}
 use Rattle.pnm_image.proofs.Places.{lawful_append}
-use Rattle.pnm_lanes.proofs.PartLaws.{dealt_from-append}
+use Rattle.pnm_lanes.proofs.DealtLaws.{dealt_from-append}
 use Rattle.pnm_lanes.proofs.DealtParts.{all_of_both, all_of_rest, all_messages, dealt_of_stream, dealt_goes_on}
 use Rattle.pnm_lanes.proofs.DrainSteps.{ends_then, ended_then}
 

@@ -1,5 +1,5 @@
 -- The heads that the lanes hold, and the head of the image whose rows were dealt to them.
-use Rattle.pnm_lanes.proofs.Words.{◌≡◌, ℕ, ◌+◌, ◌<◌, ◌≤◌, List, [], ◌∷◌, length, get_or, set, take, refl, sym, ap, subst, ◌∙◌, arith}
+use Rattle.pnm_lanes.proofs.Words.{◌≡◌, ℕ, ◌+◌, ◌<◌, ◌≤◌, List, [], ◌∷◌, length, get_or, set, take, sym, ap, subst, ◌∙◌, arith}
 use Rattle.pnm_lanes.proofs.Words.{get_or-set_same, get_or-set_other, get_or-take, length-take-le, Message, Begin, IsPrefixOf, HeadValue, IsHead}
 use Rattle.pnm_lanes.proofs.Words.{with_height, MAX_SIDE, dealt_head, dealt_height, at_lane, Held, in_held, AreDealtHeads, AreDealtHeights}
 use Rattle.pnm_lanes.proofs.LaneLists.{at_lane-get, at_lane-set, at_lane-others}

@@ -1,19 +1,10 @@
 -- The lanes' parts of a stream tell the whole of it.
 use Rattle.pnm_lanes.proofs.Words.{◌≡◌, ℕ, ◌%◌, ◌<◌, List, [], ◌∷◌, ◌++◌, map, refl, sym, ap, subst, ◌∙◌, append_assoc, arith, eq-eqb, if◌then◌else◌}
 use Rattle.pnm_lanes.proofs.Words.{AllByRecursion, append_cancel_left, mod_below, Message, Begin, Row, ImageEnd, StreamEnd, Stop, Place, Between, Inside, After}
-use Rattle.pnm_lanes.proofs.Words.{Shape, HeadValue, with_height, Accepts, IsLawfulFrom, place_after, place_of, IsPrefixOf, same_first, dealt_height, dealt_row}
+use Rattle.pnm_lanes.proofs.Words.{Shape, HeadValue, with_height, Accepts, IsLawfulFrom, place_after, IsPrefixOf, same_first, dealt_height, dealt_row}
 use Rattle.pnm_lanes.proofs.Words.{dealt_head, dealt_message, dealt_from, IsOfStream, Fits, FitsFrom, ◌+◌}
 use Rattle.std.specs.Prelude.{Bool}
 use Rattle.pnm_lanes.proofs.HeightSums.{same_height}
-
--- what a lane gets of two lists, one after the other
-pub dealt_from-append : (lane lanes : ℕ) (place : Place) (a b : List Message) → dealt_from lane lanes place (a ++ b) ≡ dealt_from lane lanes place a
-    ++ dealt_from lane lanes (place_of place a) b
-dealt_from-append lane lanes place [] b = refl
-dealt_from-append lane lanes place (m ∷ a) b =
-    ap (λ (l : List Message). dealt_message lane lanes place m ++ l) (dealt_from-append lane lanes (place_after place m) a b)
-    ∙ sym (append_assoc (dealt_message lane lanes place m) (dealt_from lane lanes (place_after place m) a)
-    (dealt_from lane lanes (place_of (place_after place m) a) b))
 
 -- ---- prefixes
 

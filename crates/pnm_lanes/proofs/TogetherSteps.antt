@@ -1,5 +1,5 @@
 -- What is held of the lanes, put together.
-use Rattle.pnm_lanes.proofs.Words.{◌≡◌, ◌≢◌, ℕ, ◌%◌, ◌+◌, ◌<◌, ◌≤◌, Bool, true, false, List, [], ◌∷◌, ◌++◌, length, drop, get_or, set, refl}
+use Rattle.pnm_lanes.proofs.Words.{◌≡◌, ◌≢◌, ℕ, ◌%◌, ◌+◌, ◌<◌, ◌≤◌, Bool, true, false, List, [], ◌∷◌, ◌++◌, length, get_or, set, refl}
 use Rattle.pnm_lanes.proofs.Words.{sym, ap, subst, ◌∙◌, append_assoc, append-nil, arith, map, Option, Some, None, mod_below, Message, Begin, Row, ImageEnd}
 use Rattle.pnm_lanes.proofs.Words.{StreamEnd}
 use Rattle.pnm_lanes.proofs.Words.{Stop, Place, Between, Inside, After, Shape, HeadValue, IsHead, IsPrefixOf, IsLawfulFrom, place_after, place_of}

@@ -1,6 +1,6 @@
 -- What the proofs of pnm_lanes name of its definitions, of std and of the crates below.
 pub use Rattle.pnm_image.proofs.Lists.{all_of_prefix, each-middle, each-push, same_first, same_rest}
-pub use Rattle.pnm_image.proofs.Places.{lawful_more, lawful_prefix, next_may_come, place_of-append}
+pub use Rattle.pnm_image.proofs.Places.{lawful_prefix, next_may_come, place_of-append}
 pub use Rattle.pnm_image.proofs.Streams.{completion, is_stream_of, stream_is_lawful}
 pub use Rattle.pnm_image.specs.Completion.{Completes, IsPrefixOf, IsStreamOf}
 pub use Rattle.pnm_image.specs.Heads.{HeadValue, IsHead, with_height}
@@ -85,7 +85,7 @@ pub use Rattle.std.proofs.lemmas.Bool.{cases_eq, cases_lt, false≢true}
 pub use Rattle.std.proofs.lemmas.Bool.Decides.{nat_tests}
 pub use Rattle.std.proofs.lemmas.Grind.{common_steps}
 pub use Rattle.std.proofs.lemmas.List.{append_cancel_left, drop_at, drop_more, get_or-set_other, get_or-set_same, get_or-take, length-append, length-set}
-pub use Rattle.std.proofs.lemmas.List.{length-take, length-take-le, map-append, take-append-drop, take_all, take_at}
+pub use Rattle.std.proofs.lemmas.List.{length-take-le, map-append}
 pub use Rattle.std.proofs.lemmas.List.Sums.{sum_by-cons}
 pub use Rattle.std.proofs.lemmas.Nat.{div-add-mod', mod-mul-add, mod_below}
 pub use Rattle.std.proofs.lemmas.Result.{err_from_is_err_and}
