@@ -137,7 +137,8 @@ impl Held {
         let Some(rows) = &self.rows else {
             return;
         };
-        if rows.count() - self.passed > 1 {
+        let left = rows.count() - self.passed;
+        if left > 1 {
             self.passed += 1;
         } else {
             self.rows = None;
