@@ -9,7 +9,7 @@ from case_text import Apart, OneOf, Together, handed_in, is_head, is_row, one_by
 from chain_text import read_chain
 from slow_heads import is_row_wise, named_tool
 from slow_reader import MOST, tell
-from slow_tools import Place, keeps_images, stage
+from slow_tools import Place, keeps_images, named_tool, stage
 
 WORDS = ("stage", "deal", "gather", "chain", "heights")
 
@@ -36,7 +36,7 @@ def want(word, text):
         if len(handed) > PLACES:
             return " no case"
         if word == "chain":
-            return want_of_chain(tools, handed, int(number))
+            return want_of_chain(tools, handed)
         return want_of_stage(tools[0], handed, int(number), gone)
     number, gone, *takes = text.split(" ", 2)
     if word == "deal":
@@ -85,16 +85,14 @@ def may_go_together(handed, told):
     return Apart(told) if any(isinstance(it, Together) for it in handed) else told
 
 
-def want_of_chain(tools, handed, lanes):
+def want_of_chain(tools, handed):
     """How each tool of a chain ends, over however many lanes, and what the last one sends."""
     messages, told, left = one_by_one(handed), "", ""
     for number, tool in enumerate(tools):
         end, sent, taken = stage(tool, messages)
         left = left if number else told_after("left", messages[taken:])
         told, messages = f"{told} {end}", sent
-    told = f"{told}{left}{told_after('sent', messages)}"
-    # over a lane's rings rows go one by one
-    return told if lanes > 1 and is_row_wise(tools[-1]) else may_go_together(handed, told)
+    return may_go_together(handed, f"{told}{left}{told_after('sent', messages)}")
 
 
 # --- lanes
