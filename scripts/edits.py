@@ -14,9 +14,8 @@ open in the functions that it changes.
 A function of a trait and a few others have no copies (`may_be_copied`), and are changed where they stand, those of
 different functions in one check. So is what a copy doesn't show to be well. What a group can't judge, since a function
 that is called is edited too, is tried again with others of which that holds, and then by itself. Edits of limits, which
-the law `limits_are` names, are tried together, each at its clause of the law; those of other constants alone, in the
-functions that name these; those of definitions alone, in the laws of the crate. The statements of the crates below come
-from FOLDER. The crates are tried side by side, one a processor.
+the law `limits_are` names, are tried together, each at its clause of the law; those of definitions alone, in the laws
+of the crate. The statements of the crates below come from FOLDER. The crates are tried side by side, one a processor.
 """
 
 import argparse
@@ -68,23 +67,12 @@ def constant_of(texts, steps):
     return items[-1][2]
 
 
-def users_of(crate, name):
-    """The functions whose contracts or bodies have this name, or that of a constant that has it."""
-    word, found = re.compile(rf"\b{name}\b"), set()
-    for path in [it for it in crate.texts if it.endswith(".rt")]:
-        code = blanked(crate.texts[path])
-        found |= {at for at, it in crate.functions.items() if at[0] == path and word.search(code, it.start, it.end)}
-        for it in re.findall(rf"^(?:pub(?:\([a-z]+\))? )?const (\w+): [^;]*\b{name}\b", code, re.M):
-            found |= users_of(crate, it)
-    return frozenset(found)
-
-
 def clause_on(crate, name):
-    """The clause of the law on limits that names this constant, if one does."""
+    """The clause of the law on limits that names this constant."""
     law = crate.functions.get(LIMITS)
     text = crate.texts[LAWS][law.start : law.body] if law else ""
     found = re.search(rf"ensures (\w+) \{{[^}}]*\b{name}\b", text)
-    return found[1] if found else ""
+    return found[1] if found else sys.exit(f"edits: {crate.name}: no clause of limits_are names {name}")
 
 
 def change_of(crate, kind, name, steps):
@@ -95,10 +83,8 @@ def change_of(crate, kind, name, steps):
     if places:
         is_copied = is_within and all(may_be_copied(crate, it) for it in places)
         return Change(kind, name, steps, places, "", True, is_copied)
-    if constant and clause_on(crate, constant):
-        return Change(kind, name, steps, frozenset({LIMITS}), clause_on(crate, constant), True)
     if constant:
-        return Change(kind, name, steps, users_of(crate, constant), "", False)
+        return Change(kind, name, steps, frozenset({LIMITS}), clause_on(crate, constant), True)
     of_code = [it for it in steps if it[0].endswith(".rt")]
     laws = {it for it in crate.functions if it[0] == LAWS} if len(of_code) < len(steps) else set()
     return Change(kind, name, steps, functions_of(crate.texts, of_code)[0] | laws, "", False)
