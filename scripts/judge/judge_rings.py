@@ -7,9 +7,9 @@ from copy import copy
 
 from case_text import Apart, OneOf, Together, handed_in, is_head, is_row, one_by_one
 from chain_text import read_chain
-from slow_heads import is_row_wise, named_tool
+from slow_heads import named_tool
 from slow_reader import MOST, tell
-from slow_tools import Place, keeps_images, named_tool, stage
+from slow_tools import Place, keeps_images, stage
 
 WORDS = ("stage", "deal", "gather", "chain", "heights")
 
