@@ -20,7 +20,11 @@ UNBROKEN = {
 }
 # these hand on what another function gives, which has an edit: for what turns it here the prover stops at a limit, or
 # at an answer that names the call
-HANDED_ON = {("pnm_image", "Rows", "as_slice"), ("pnm_samples", "Samples", "sample")}
+HANDED_ON = {
+    ("pnm_image", "Rows", "as_slice"),
+    ("pnm_image", "RowSlice", "bytes"),
+    ("pnm_samples", "Samples", "sample"),
+}
 
 
 def promising(crate):
